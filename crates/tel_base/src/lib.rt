@@ -1,0 +1,9 @@
+//! What every crate of telingo stands on: texts, the two refusals that anything may give, and the
+//! outside, where texts come from and bytes go to.
+#![tactic(auto)]
+
+mod outside;
+mod texts;
+
+pub use outside::{Failed, Memory, Sink, Source};
+pub use texts::Text;

@@ -1,0 +1,11 @@
+//! Temporal logic programs, as they are read and as they are instantiated, and the traces that they
+//! have.
+#![tactic(auto)]
+
+mod ground;
+mod rules;
+mod traces;
+
+pub use ground::{BodyItem, BodyLit, GroundAtom, GroundHead, Instance, Template};
+pub use rules::{Part, PlainHead, PlainLiteral, Program, Rule};
+pub use traces::Trace;
