@@ -4,6 +4,8 @@
 
 mod outside;
 mod texts;
+mod writing;
 
 pub use outside::{Failed, Memory, Sink, Source};
 pub use texts::Text;
+pub use writing::write_whole;
