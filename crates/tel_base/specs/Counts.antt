@@ -6,6 +6,10 @@ use Rattle.std.specs.Prelude.{◌≡◌, ℕ, ◌+◌, ◌-◌, ◌^◌, ◌<◌
 abbrev pub last_count : ℕ
 last_count = 2 ^ 64 - 1
 
+-- the next value of a count, which stays at the last one
+abbrev pub counted : ℕ → ℕ
+counted count = min (count + 1) last_count
+
 -- a call failed between the two counts, as far as a count can tell: it rose, or it is at its last value
 abbrev pub Rose : ℕ → ℕ → Type 0
 Rose before now = min (before + 1) last_count ≤ now

@@ -1,2 +1,4 @@
-pub mod Counts
 pub mod Bytes
+pub mod Counts
+pub mod Given
+pub mod Taken

@@ -3,9 +3,13 @@
 #![tactic(auto)]
 
 mod outside;
+mod sinks;
+mod sources;
 mod texts;
 mod writing;
 
 pub use outside::{Failed, Memory, Sink, Source};
+pub use sinks::{MemSink, NullSink};
+pub use sources::{MemSource, PlainSource};
 pub use texts::Text;
 pub use writing::write_whole;
