@@ -2,12 +2,14 @@
 //! outside, where texts come from and bytes go to.
 #![tactic(auto)]
 
+mod edge;
 mod outside;
 mod sinks;
 mod sources;
 mod texts;
 mod writing;
 
+pub use edge::{FileSource, OutSink};
 pub use outside::{Failed, Memory, Sink, Source};
 pub use sinks::{MemSink, NullSink};
 pub use sources::{MemSource, PlainSource};
