@@ -7,11 +7,10 @@ ghost use Rattle.tel_base.specs.Bytes.{Appends};
 
 use crate::outside::{Failed, Sink, Source};
 use std::alloc::Global;
-use std::fs;
-use std::io;
 use std::io::Read;
 use std::marker::Model;
 use std::rt::Files;
+use std::{fs, io};
 
 /// Files by their names, and standard input by the name `-`. Contracts see the count of its failed
 /// calls.

@@ -6,6 +6,8 @@ mod edge;
 mod outside;
 mod sinks;
 mod sources;
+#[cfg(test)]
+mod tests;
 mod texts;
 mod writing;
 

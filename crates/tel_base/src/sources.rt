@@ -128,12 +128,7 @@ impl Source for PlainSource {
 
     fn read(&mut self, _name: &str, from: u64, into: &mut [u8]) -> Result<usize, Failed>
         requires { from ≤ length self.old }
-        ensures room { IfOk result (λ count. count ≤ length into.new) }
         ensures bytes { IfOk result (λ count. take count into.new ≡ take count (drop from self.old)) }
-        ensures end { IfOk result (λ count. count ≡ 0 → 0 < length into.new → from ≡ length self.old) }
-        ensures texts { (word : List ℕ) → Some self.new ≡ Some self.old }
-        ensures cause { HasCause 0 0 result }
-        ensures named { OnErr result (Unit {0}) }
         ensures count { result ≡ Ok (piece_length (length into.old) from self.old) }
         ensures after { self.new ≡ self.old }
         ensures rest { IfOk result (λ count. drop count into.new ≡ drop count into.old) }
