@@ -1,7 +1,13 @@
 //! The semantics of temporal logic programs on finite traces: what a program's temporal equilibrium
-//! models of a length are, and how they are printed.
+//! models of a length are, how they are listed by the definition, and how they are printed.
 #![tactic(auto)]
 
+mod candidates;
 mod ends;
+mod laws;
+mod listing;
+mod satisfying;
 
 pub use ends::How;
+pub use laws::{agreement, negation_there, persistence};
+pub use listing::plain_list;

@@ -1,0 +1,5 @@
+pub mod Quantifiers
+pub mod SatLaws
+pub mod ListSteps
+pub mod Members
+pub mod Below

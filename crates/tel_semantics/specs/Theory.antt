@@ -1,0 +1,69 @@
+-- The theory of an instantiated program: each instance is the formula body -> head, demanded at the instants of its part.
+use Rattle.std.specs.Prelude.{ℕ, ◌+◌, Bool, true, not, ◌||◌, List, [], ◌∷◌, map, if◌then◌else◌, nat_lt, ◌==◌}
+use Rattle.std.specs.List.{list_all}
+use Rattle.tel_rule.specs.declared.rules.Part.{Part}
+use Rattle.tel_rule.specs.declared.rules.Part.TheVariants as parts
+use Rattle.tel_rule.specs.declared.ground.Instance.{Instance}
+use Rattle.tel_rule.specs.declared.ground.GroundHead.{GroundHead}
+use Rattle.tel_rule.specs.declared.ground.GroundHead.TheVariants as heads
+use Rattle.tel_rule.specs.declared.ground.BodyLit.{BodyLit}
+use Rattle.tel_rule.specs.declared.ground.BodyItem.{BodyItem}
+use Rattle.tel_rule.specs.declared.ground.BodyItem.TheVariants as items
+use Rattle.tel_rule.specs.Ground.{Ground}
+use Rattle.tel_semantics.specs.Traces.{Test, each_below}
+use Rattle.tel_semantics.specs.Formula.{Formula, True, False, Atom, And, Or, Arrow, Previous, Next, negation}
+use Rattle.tel_semantics.specs.Satisfaction.{sat}
+
+-- a formula, and the part at whose instants it is demanded
+pub record Demand : Type 0 where
+  pub part : Part
+  pub formula : Formula
+
+-- an atom at the same instant, or one instant before
+abbrev pub item_formula : BodyItem → Formula
+item_formula (items.Atom atom) = Atom atom
+item_formula (items.Before atom) = Previous (Atom atom)
+
+abbrev pub literal_formula : BodyLit → Formula
+literal_formula literal = if literal.positive then item_formula literal.item else negation (item_formula literal.item)
+
+-- the `and` of the literals of a body
+abbrev pub body_formula : List BodyLit → Formula
+body_formula [] = True
+body_formula (literal ∷ more) = And (literal_formula literal) (body_formula more)
+
+-- an atom at the same instant, or at the next one
+abbrev pub derived_formula : ℕ → Bool → Formula
+derived_formula atom after = if after then Next (Atom atom) else Atom atom
+
+-- p, next p, `p or not p`, `next p or not next p`, or false
+abbrev pub head_formula : GroundHead → Formula
+head_formula (heads.Normal atom after) = derived_formula atom after
+head_formula (heads.Choice atom after) = Or (derived_formula atom after) (negation (derived_formula atom after))
+head_formula heads.None = False
+
+-- body -> head
+abbrev pub instance_formula : Instance → Formula
+instance_formula instance = Arrow (body_formula instance.body) (head_formula instance.head)
+
+abbrev pub demand_of : Instance → Demand
+demand_of instance = record { part = instance.part; formula = instance_formula instance }
+
+-- the formulas of a program with their parts, in the order of its instances
+abbrev pub theory : Ground → List Demand
+theory program = map demand_of program.instances
+
+-- whether a part demands its formulas at the instant k of a trace of length n
+abbrev pub is_demanded : Part → ℕ → ℕ → Bool
+is_demanded parts.Initial n k = k == 0
+is_demanded parts.Dynamic n k = nat_lt 0 k
+is_demanded parts.Always n k = true
+is_demanded parts.Final n k = k + 1 == n
+
+-- whether (H, T) satisfies a formula wherever it is demanded
+abbrev pub meets : ℕ → Test → Test → Demand → Bool
+meets n H T demand = each_below n (λ k. not (is_demanded demand.part n k) || sat demand.formula n H T k)
+
+-- whether (H, T) is a model of a theory, in traces of length n
+abbrev pub is_model : List Demand → ℕ → Test → Test → Bool
+is_model demands n H T = list_all (meets n H T) demands
