@@ -1,0 +1,10 @@
+//! Reads the text of a propositional temporal logic program.
+#![tactic(auto)]
+
+mod fault;
+mod lexer;
+mod reader;
+mod statements;
+
+pub use fault::ReadFault;
+pub use reader::{one_program, read};
