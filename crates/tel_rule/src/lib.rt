@@ -3,9 +3,11 @@
 #![tactic(auto)]
 
 mod ground;
+mod laws;
 mod rules;
 mod traces;
 
 pub use ground::{BodyItem, BodyLit, GroundAtom, GroundHead, Instance, Template};
+pub use laws::rising_sets;
 pub use rules::{Part, PlainHead, PlainLiteral, Program, Rule};
 pub use traces::Trace;
