@@ -1,9 +1,9 @@
 //! The files and streams of the system. What they hold no contract can tell, so they tell no bytes:
 //! they are proved against the counts of failed calls, and a test shows their bytes.
-ghost use Rattle.std.specs.Prelude.{◌≡◌, ℕ, ◌<◌, ◌≤◌, List, None, length, take, IfOk, OnErr, if◌then◌else◌};
+ghost use Rattle.std.specs.Prelude.{◌≡◌, ℕ, ◌+◌, ◌<◌, ◌≤◌, true, List, Some, None, length, take, min, IfOk, OnOk, OnErr, if◌then◌else◌};
 ghost use Rattle.std.specs.Result.{is_err};
-ghost use Rattle.tel_base.specs.Counts.{HasCause, counted};
-ghost use Rattle.tel_base.specs.Bytes.{Appends};
+ghost use Rattle.tel_base.specs.Counts.{HasCause, counted, last_count};
+ghost use Rattle.tel_base.specs.Opened.{Opened, reads_on, is_read_to, after_given, after_failed};
 
 use crate::outside::{Failed, Sink, Source};
 use std::alloc::Global;
@@ -12,12 +12,11 @@ use std::marker::Model;
 use std::rt::Files;
 use std::{fs, io};
 
-/// Files by their names, and standard input by the name `-`. Contracts see the count of its failed
-/// calls.
+/// Files by their names, and standard input by the name `-`.
 ///
-/// A call at place 0 opens the file anew, and a call at the place where the last one for this name
-/// ended reads on. Standard input can't be opened anew. Every other call fails, and so does one that
-/// reads on after a call for another file.
+/// A call at place 0 opens the file anew, and a call for the same file at the place where the last
+/// one ended reads on. Standard input can't be opened anew. Every other call fails, and after a call
+/// that failed a file has to be opened anew.
 #[derive(Drop)]
 pub struct FileSource<R: Files + Input> {
     runtime: R,
@@ -37,17 +36,23 @@ struct Reading<F> {
 }
 
 impl<R: Files + Input> Model for FileSource<R> {
-    ghost use Rattle.std.specs.Prelude.{ℕ};
+    ghost use Rattle.std.specs.Prelude.{string_bytes};
+    ghost use Rattle.std.specs.Option.{option_map};
+    ghost use Rattle.tel_base.specs.Opened.{Opened};
 
-    ghost Value = { ℕ };
+    ghost Value = { Opened };
 
-    ghost view = { λ source. source.faults };
+    ghost view = { λ source. record {
+      input = source.taken;
+      file = option_map (λ reading. (string_bytes reading.name, reading.place)) source.reading;
+      faults = source.faults;
+    } };
 }
 
 impl<R: Files + Input> FileSource<R> {
     /// A source over the files and the standard input of this runtime.
     pub fn new(alloc: Global, runtime: R) -> FileSource<R>
-        ensures { result ≡ 0 }
+        ensures { result ≡ record { input = 0; file = None; faults = 0 } }
     {
         let input = runtime.reader();
         FileSource {
@@ -63,29 +68,32 @@ impl<R: Files + Input> FileSource<R> {
     // Reads as `read` does, and doesn't count.
     fn give(&mut self, name: &str, from: u64, into: &mut [u8]) -> Result<usize, Failed>
         ensures room { IfOk result (λ count. count ≤ length into.new) }
-        ensures faults { self.new ≡ self.old }
+        ensures place { OnOk result (reads_on self.old name.now from ≡ true) }
+        ensures after { IfOk result (λ count. self.new ≡ after_given self.old name.now from count) }
+        ensures err { OnErr result ((self.new.input ≡ self.old.input) × (self.new.faults ≡ self.old.faults)) }
     {
         if name == "-" {
-            self.give_input(from, into)
-        } else {
-            if from == 0 {
-                self.open(name)?;
-            }
-            self.read_on(name, from, into)
+            return self.give_input(from, into);
         }
+        if from == 0 && self.open(name).is_err() {
+            return Err(Failed);
+        }
+        self.read_on(name, from, into)
     }
 
     // Reads standard input on from this place.
     fn give_input(&mut self, from: u64, into: &mut [u8]) -> Result<usize, Failed>
         ensures room { IfOk result (λ count. count ≤ length into.new) }
-        ensures faults { self.new ≡ self.old }
+        ensures place { OnOk result (from ≡ self.old.input) }
+        ensures after { IfOk result (λ count. self.new ≡ record self.old { input = min (from + count) last_count }) }
+        ensures err { OnErr result (self.new ≡ self.old) }
     {
         if from != self.taken {
             return Err(Failed);
         }
         match self.input.read(into) {
             Ok(count) => {
-                self.taken = self.taken.saturating_add(count as u64);
+                self.taken = from.saturating_add(count as u64);
                 Ok(count)
             }
             Err(_) => Err(Failed),
@@ -94,7 +102,8 @@ impl<R: Files + Input> FileSource<R> {
 
     // Opens the file of this name, in place of the one that was read.
     fn open(&mut self, name: &str) -> Result<(), Failed>
-        ensures { self.new ≡ self.old }
+        ensures ok { OnOk result (self.new ≡ record self.old { file = Some (name.now, 0) }) }
+        ensures err { OnErr result (self.new ≡ record self.old { file = None }) }
     {
         self.reading = None;
         let Ok(file) = fs::open(&self.runtime, name) else {
@@ -114,7 +123,9 @@ impl<R: Files + Input> FileSource<R> {
     // Reads the open file on from this place.
     fn read_on(&mut self, name: &str, from: u64, into: &mut [u8]) -> Result<usize, Failed>
         ensures room { IfOk result (λ count. count ≤ length into.new) }
-        ensures faults { self.new ≡ self.old }
+        ensures place { OnOk result (is_read_to self.old.file name.now from ≡ true) }
+        ensures after { IfOk result (λ count. self.new ≡ record self.old { file = Some (name.now, min (from + count) last_count) }) }
+        ensures err { OnErr result (self.new ≡ self.old) }
     {
         match &mut self.reading {
             Some(reading) if reading.name.as_str() == name && reading.place == from => {
@@ -128,7 +139,10 @@ impl<R: Files + Input> FileSource<R> {
 impl<F: Read> Reading<F> {
     // Reads on, and counts the place up.
     fn give(&mut self, into: &mut [u8]) -> Result<usize, Failed>
-        ensures { IfOk result (λ count. count ≤ length into.new) }
+        ensures room { IfOk result (λ count. count ≤ length into.new) }
+        ensures name { self.new.name ≡ self.old.name }
+        ensures place { IfOk result (λ count. self.new.place ≡ min (self.old.place + count) last_count) }
+        ensures err { OnErr result (self.new.place ≡ self.old.place) }
     {
         match self.file.read(into) {
             Ok(count) => {
@@ -143,18 +157,21 @@ impl<F: Read> Reading<F> {
 impl<R: Files + Input> Source for FileSource<R> {
     ghost text = { λ source name. None };
 
-    ghost faults = { λ source. source };
+    ghost faults = { λ source. source.faults };
 
     ghost failed = { λ source. None };
 
     fn read(&mut self, name: &str, from: u64, into: &mut [u8]) -> Result<usize, Failed>
         ensures room { IfOk result (λ count. count ≤ length into.new) }
-        ensures cause { HasCause self.old self.new result }
-        ensures after { self.new ≡ (if is_err result then counted self.old else self.old) }
+        ensures place { OnOk result (reads_on self.old name.now from ≡ true) }
+        ensures after { IfOk result (λ count. self.new ≡ after_given self.old name.now from count) }
+        ensures err { OnErr result (self.new ≡ after_failed self.old) }
+        ensures cause { HasCause self.old.faults self.new.faults result }
     {
         match self.give(name, from, into) {
             Ok(count) => Ok(count),
             Err(fault) => {
+                self.reading = None;
                 self.faults = self.faults.saturating_add(1);
                 Err(fault)
             }
