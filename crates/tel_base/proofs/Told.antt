@@ -1,5 +1,5 @@
 -- What several calls in a row add to bytes that may be told or not, and to counts of failed calls.
-use Rattle.std.specs.Prelude.{◌≡◌, ℕ, ◌+◌, ◌≤◌, List, [], ◌++◌, Option, Some, None, Result, Ok, Err, take, length}
+use Rattle.std.specs.Prelude.{◌≡◌, ℕ, ◌+◌, ◌≤◌, List, [], ◌++◌, Option, Some, None, Result, Ok, Err, OnOk, OnErr, take, length}
 use Rattle.std.proofs.Common.{refl, sym, ◌∙◌, ap, subst, arith, append_assoc, length-append, append-nil}
 use Rattle.std.proofs.Math.Seq.{take-append-add, take-append_seam, take-length}
 use Rattle.std.proofs.lemmas.List.{take-append-le}
@@ -74,3 +74,18 @@ cause-up a b e d h = record { falls_never = h.falls_never; stands = tt; rose = h
 -- a value that is handed up
 pub cause-on : {T E U D : Type 0} (a b : ℕ) (x : T) (y : U) → HasCause {E = E} a b (Ok x) → HasCause {E = D} a b (Ok y)
 cause-on a b x y h = record { falls_never = h.falls_never; stands = h.stands; rose = tt }
+
+-- the same of a call whose answer is handed up: what is said of an Ok
+pub appends-then-ok : {T E : Type 0} (result : Result T E) (old mid new : Option (List ℕ)) (a b : List ℕ)
+    → Appends old mid a → OnOk result (Appends mid new b) → OnOk result (Appends old new (a ++ b))
+appends-then-ok (Ok x) old mid new a b e f = appends-then old mid new a b e f
+appends-then-ok (Err x) old mid new a b e f = tt
+
+-- and what is said of an Err
+pub front-then-err : {T E : Type 0} (result : Result T E) (old mid new : Option (List ℕ)) (a b : List ℕ)
+    → Appends old mid a → OnErr result (AppendsFront mid new b) → OnErr result (AppendsFront old new (a ++ b))
+front-then-err (Ok x) old mid new a b e f = tt
+front-then-err (Err x) old mid new a b e f = front-then old mid new a b e f
+
+-- the steps of several calls in a row
+pub ruleset in_a_row = (appends-then, front-then, front-in-first, front-of-first, appends-then-ok, front-then-err, cause-then, cause-up)

@@ -1,9 +1,9 @@
 //! The files and streams of the system. What they hold no contract can tell, so they tell no bytes:
 //! they are proved against the counts of failed calls, and a test shows their bytes.
-ghost use Rattle.std.specs.Prelude.{◌≡◌, ℕ, ◌+◌, ◌<◌, ◌≤◌, true, List, Some, None, length, take, min, IfOk, OnOk, OnErr, if◌then◌else◌};
+ghost use Rattle.std.specs.Prelude.{◌≡◌, ◌+◌, ◌<◌, ◌≤◌, true, Some, None, length, min, IfOk, OnOk, OnErr, if◌then◌else◌};
 ghost use Rattle.std.specs.Result.{is_err};
 ghost use Rattle.tel_base.specs.Counts.{HasCause, counted, last_count};
-ghost use Rattle.tel_base.specs.Opened.{Opened, reads_on, is_read_to, after_given, after_failed};
+ghost use Rattle.tel_base.specs.Opened.{reads_on, is_read_to, after_given, after_failed};
 
 use crate::outside::{Failed, Sink, Source};
 use std::alloc::Global;

@@ -1,10 +1,10 @@
 //! A sink in memory, for tests and for callers that want the bytes themselves, and one that lets go
 //! of all it takes.
-ghost use Rattle.std.specs.Prelude.{◌≡◌, ℕ, ◌<◌, ◌≤◌, [], Some, None, length, take, IfOk, OnErr};
+ghost use Rattle.std.specs.Prelude.{◌≡◌, ◌<◌, ◌≤◌, [], Some, None, length, take, IfOk, OnErr};
 ghost use Rattle.std.specs.Result.{is_err};
 ghost use Rattle.tel_base.specs.Counts.{HasCause};
 ghost use Rattle.tel_base.specs.Bytes.{Appends};
-ghost use Rattle.tel_base.specs.Taken.{Taken, write_fails, after_write, accepted};
+ghost use Rattle.tel_base.specs.Taken.{write_fails, after_write, accepted};
 
 use crate::outside::{Failed, Memory, Sink};
 use std::alloc::Global;

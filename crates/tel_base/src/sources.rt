@@ -1,10 +1,10 @@
 //! Sources in memory, for tests and for callers that have their texts at hand.
-ghost use Rattle.std.specs.Prelude.{◌≡◌, ◌==◌, ℕ, ◌+◌, ◌-◌, ◌^◌, ◌<◌, ◌≤◌, ◌++◌, List, Option, Some, None, length, take, drop, min, IfOk, IfSome, OnOk, OnErr, MatchOption, map, string_bytes};
+ghost use Rattle.std.specs.Prelude.{◌≡◌, ℕ, ◌<◌, ◌≤◌, List, Some, None, length, take, drop, IfOk, IfSome, OnErr, MatchOption, map, string_bytes};
 ghost use Rattle.std.specs.Result.{is_err};
-ghost use Rattle.std.specs.List.{slice_get, list_any};
+ghost use Rattle.std.specs.List.{slice_get};
 ghost use Rattle.std.specs.Option.{option_map};
 ghost use Rattle.tel_base.specs.Counts.{HasCause};
-ghost use Rattle.tel_base.specs.Given.{Given, text_of, read_fails, after_read, piece_length};
+ghost use Rattle.tel_base.specs.Given.{text_of, read_fails, after_read, piece_length};
 
 use crate::outside::{Failed, Source};
 use std::marker::Model;

@@ -68,11 +68,11 @@ fn pieces_written(rt: HostRuntime) -> Result<(), Fail> {
         prove!(most >= 1);
         let mut sink = MemSink::new(alloc, room, most, vec![in alloc; fails]?)?;
         let answer = write_whole(&mut sink, b"length 1");
-        assert_eq!(rt; answer.is_ok(), whole, "room {room}, {most} a call");
+        assert_eq!(rt; answer.is_ok(), whole, "room {room} and {most} a call");
         assert_eq!(rt;
             sink.bytes(),
             wanted.as_bytes(),
-            "room {room}, {most} a call"
+            "room {room} and {most} a call"
         );
     }
     let mut sink = MemSink::new(alloc, 0, 1, vec![in alloc; 1]?)?;
@@ -116,7 +116,7 @@ fn files_and_streams(rt: HostRuntime) -> Result<(), Fail> {
         assert_eq!(rt;
             given,
             wanted.map(|text| text.as_bytes()),
-            "{name} from {from}"
+            "{name} at {from}"
         );
     }
     fs::remove_dir_all(&rt, "tel_base_test")?;
