@@ -1,8 +1,10 @@
 -- What is in the list of the subsets of a state, and in the list of the traces below a trace.
 use Rattle.std.proofs.Common.{◌≡◌, ℕ, ◌+◌, ◌<◌, ◌≤◌, zero, suc, true, List, [], ◌∷◌, length, map, refl, sym, ap, subst, inl, ⊎_elim, arith}
-use Rattle.std.specs.Prelude.{nat_lt}
-use Rattle.std.specs.List.{list_all, range_with_len}
-use Rattle.std.proofs.lemmas.Bool.{and_parts, and_from, cases_order, ltb-true, lt-ltb}
+use Rattle.std.specs.Prelude.{nat_lt, ◌==◌}
+use Rattle.std.specs.List.{filter, list_all, range_with_len}
+use Rattle.std.proofs.lemmas.Bool.{cond-false, ne_eqb, and_parts, and_from, cases_order, ltb-true, lt-ltb}
+use Rattle.tel_rule.specs.Ground.{Ground}
+use Rattle.tel_semantics.specs.Equilibrium.{tem, list_of}
 use Rattle.tel_rule.specs.Rising.{numbers_rise}
 use Rattle.tel_semantics.specs.Traces.{is_state}
 use Rattle.tel_semantics.specs.Lists.{subsets, traces_below, full_trace, all_traces}
@@ -113,3 +115,8 @@ states_rise count (state ∷ trace) h =
 
 pub all_traces-rise : (count n : ℕ) (trace : List (List ℕ)) → In trace (all_traces count n) → list_all numbers_rise trace ≡ true
 all_traces-rise count n trace h = states_rise count trace (Under-full count n trace (Under-traces_below trace (full_trace count n) h)).1
+
+-- the list of a length other than 0
+pub list_of-suc : (program : Ground) (n : ℕ) → list_of program (suc n) ≡ filter (tem program (suc n)) (all_traces (length program.atoms) (suc n))
+list_of-suc program n =
+    cond-false (suc n == 0) [] (filter (tem program (suc n)) (all_traces (length program.atoms) (suc n))) (ne_eqb (suc n) 0 (λ e. absurd (omega arith)))

@@ -3,3 +3,6 @@ pub mod SatLaws
 pub mod ListSteps
 pub mod Members
 pub mod Below
+pub mod Minimal
+pub mod ExactList
+pub mod Ordered

@@ -1,6 +1,6 @@
 -- Lemmas on the bounded quantifiers `each_below` and `some_below`.
 use Rattle.std.proofs.Common.{◌≡◌, ℕ, ◌<◌, zero, suc, Bool, true, false, not, ◌||◌, refl, sym, subst, ◌⊎◌, inl, inr, ⊎_elim, arith}
-use Rattle.std.proofs.lemmas.Bool.{and_parts, and_from, and_left, and_right, or_cases, or_left, or_right, cases_order}
+use Rattle.std.proofs.lemmas.Bool.{and_cases, and_parts, and_from, and_left, and_right, or_cases, or_left, or_right, cases_order}
 use Rattle.tel_semantics.specs.Traces.{each_below, some_below}
 
 -- a number up to n is n or below it
@@ -58,3 +58,9 @@ some_below-weaker n p q h a = let w = some_below-at n p a in some_below-from n q
 -- what holds unless something that holds is false
 pub unless-false : (x y : Bool) → x ≡ true → y ≡ false → (not x || y) ≡ false
 unless-false x y p q = cc
+
+-- where not each passes, some fails
+pub each_below-fails : (n : ℕ) (p : ℕ → Bool) → each_below n p ≡ false → (k : ℕ) × (k < n) × (p k ≡ false)
+each_below-fails zero p h = absurd (cc)
+each_below-fails (suc n) p h =
+    ⊎_elim (λ here. (n, omega arith, here)) (λ more. let w = each_below-fails n p more in (w.0, omega arith, w.2)) (and_cases (p n) (each_below n p) h)

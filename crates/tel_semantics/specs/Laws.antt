@@ -1,8 +1,13 @@
 -- Laws of the definitions.
-use Rattle.std.specs.Prelude.{◌≡◌, ℕ, ◌<◌, IsTrue}
-use Rattle.tel_semantics.specs.Traces.{Test, IsBelow, Agree}
+use Rattle.std.specs.Prelude.{◌≡◌, ℕ, ◌<◌, List, length, IsTrue, IsFalse, ◌↔◌}
+use Rattle.std.specs.List.{Contains, AllPairs}
+use Rattle.tel_rule.specs.Ground.{Ground, IsGround}
+use Rattle.tel_semantics.specs.Traces.{Test, test_of, IsTrace, IsBelow, Agree, Differ}
 use Rattle.tel_semantics.specs.Formula.{Formula, atoms_below, negation}
 use Rattle.tel_semantics.specs.Satisfaction.{sat}
+use Rattle.tel_semantics.specs.Theory.{theory, is_model}
+use Rattle.tel_semantics.specs.Equilibrium.{list_of}
+use Rattle.tel_semantics.specs.Order.{Precedes}
 
 -- satisfaction looks only at instants below the length, and at the atoms of the formula
 abbrev pub LooksInRange : Type 0
@@ -18,3 +23,19 @@ Persists =
 abbrev pub NegationIsThere : Type 0
 NegationIsThere =
     (f : Formula) (n count : ℕ) (H T : Test) → IsTrue (atoms_below count f) → IsBelow n count H T → (k : ℕ) → k < n → sat (negation f) n H T k ≡ sat (negation f) n T T k
+
+-- T is a trace of this length over the atoms, (T, T) is a model, and no (H, T) is one whose H, any test, is below T and differs
+pub record IsEquilibrium (program : Ground) (n : ℕ) (trace : List (List ℕ)) : Type 0 where
+  pub not_empty : 0 < n
+  pub is_trace : IsTrace n (length program.atoms) trace
+  pub total : IsTrue (is_model (theory program) n (test_of trace) (test_of trace))
+  pub minimal : (H : Test) → IsBelow n (length program.atoms) H (test_of trace) → Differ n (length program.atoms) H (test_of trace) → IsFalse (is_model (theory program) n H (test_of trace))
+
+-- the list of a length has exactly the temporal equilibrium models
+abbrev pub ListsEquilibria : Type 0
+ListsEquilibria =
+    (program : Ground) (n : ℕ) (trace : List (List ℕ)) → IsGround program.atoms program.instances → Contains (list_of program n) trace ↔ IsEquilibrium program n trace
+
+-- the list of a length strictly rises in the order of traces, so that each is in it once
+abbrev pub ListRises : Type 0
+ListRises = (program : Ground) (n : ℕ) → AllPairs Precedes (list_of program n)

@@ -5,4 +5,5 @@ pub mod Satisfaction
 pub mod Theory
 pub mod Lists
 pub mod Equilibrium
+pub mod Order
 pub mod Laws

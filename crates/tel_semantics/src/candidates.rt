@@ -18,7 +18,7 @@ pub type States = Items<State>;
 fn atom_before(alloc: Global, atom: u32, state: &[u32]) -> Result<State, Memory>
     ensures { IfOk result (λ more. more ≡ atom ∷ state.now) }
 {
-    let mut atoms = Vec::new(alloc);
+    let mut atoms = Vec::with_capacity(alloc, state.len() + 1)?;
     atoms.push(atom)?;
     atoms.extend_from_slice(state)?;
     Ok(Items::from_vec(atoms))
@@ -63,12 +63,12 @@ fn one_empty<T: Drop>(alloc: Global) -> Result<Items<Items<T>>, Memory>
 fn state_before(alloc: Global, state: &[u32], rest: &[State]) -> Result<States, Memory>
     ensures { IfOk result (λ states. states ≡ state.now ∷ rest.now) }
 {
-    let mut states = Items::new(alloc);
+    let mut states = Vec::with_capacity(alloc, rest.len() + 1)?;
     states.push(Items::from_slice(alloc, state)?)?;
     for state in rest {
         states.push(Items::from_slice(alloc, state.as_slice())?)?;
     }
-    Ok(states)
+    Ok(Items::from_vec(states))
 }
 
 /// Each of the traces with one more state in front.

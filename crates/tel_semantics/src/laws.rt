@@ -1,6 +1,6 @@
 //! Laws of the definitions: functions that do nothing, whose contracts are proved facts.
 
-ghost use Rattle.tel_semantics.specs.Laws.{LooksInRange, Persists, NegationIsThere};
+ghost use Rattle.tel_semantics.specs.Laws.{LooksInRange, Persists, NegationIsThere, ListsEquilibria, ListRises};
 
 /// Satisfaction looks only at instants below the length, and at the atoms of the formula.
 pub fn agreement()
@@ -15,4 +15,15 @@ pub fn persistence()
 /// A negation holds in an HT-trace `(H, T)` exactly where it holds in `(T, T)`.
 pub fn negation_there()
     ensures { NegationIsThere }
+{}
+
+/// A trace is in the list of a length exactly where it is a trace of that length over the program's
+/// atoms, `(T, T)` is a model, and no `(H, T)` is one, for every `H` below `T` other than `T`.
+pub fn equilibria()
+    ensures { ListsEquilibria }
+{}
+
+/// The list of a length strictly rises in the order of traces, so each trace is in it once.
+pub fn rising_list()
+    ensures { ListRises }
 {}

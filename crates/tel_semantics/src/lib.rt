@@ -7,7 +7,9 @@ mod ends;
 mod laws;
 mod listing;
 mod satisfying;
+#[cfg(test)]
+mod tests;
 
 pub use ends::How;
-pub use laws::{agreement, negation_there, persistence};
+pub use laws::{agreement, equilibria, negation_there, persistence, rising_list};
 pub use listing::plain_list;

@@ -7,7 +7,7 @@ ghost use Rattle.tel_semantics.specs.Traces.{test_of, is_below, each_below};
 ghost use Rattle.tel_semantics.specs.Equilibrium.{is_minimal, tem, list_of};
 
 use crate::candidates::{State, all_traces_of, traces_below_of};
-use crate::satisfying::{Pair, is_true_at};
+use crate::satisfying::{HtTrace, is_true_at};
 use sqlite_items::Items;
 use std::alloc::Global;
 use tel_base::Memory;
@@ -51,7 +51,7 @@ fn is_minimal_in(
     let count = template.atoms.len() as u32;
     let below = traces_below_of(alloc, trace)?;
     for smaller in below.as_slice() {
-        let pair = Pair {
+        let pair = HtTrace {
             length: n,
             here: smaller.as_slice(),
             there: trace,
@@ -75,7 +75,7 @@ fn is_equilibrium(
     requires { length template.now.atoms < 2 ^ 32 }
     ensures { IfOk result (λ kept. kept ≡ tem template.now n trace.now) }
 {
-    let pair = Pair {
+    let pair = HtTrace {
         length: n,
         here: trace,
         there: trace,

@@ -33,20 +33,20 @@ fn is_demanded_at(part: Part, length: usize, k: usize) -> bool
 
 /// An HT-trace: the pair of the traces `here` and `there`, both of the length.
 #[derive(Clone, Copy)]
-pub struct Pair<'a> {
+pub struct HtTrace<'a> {
     pub length: usize,
     pub here: &'a [State],
     pub there: &'a [State],
 }
 
-impl<'a> Pair<'a> {
+impl<'a> HtTrace<'a> {
     /// The pair of `there` and itself.
-    fn total(&self) -> Pair<'a>
+    fn total(&self) -> HtTrace<'a>
         ensures length { result.length ≡ self.now.length }
         ensures here { result.here.now ≡ self.now.there.now }
         ensures there { result.there.now ≡ self.now.there.now }
     {
-        Pair {
+        HtTrace {
             length: self.length,
             here: self.there,
             there: self.there,

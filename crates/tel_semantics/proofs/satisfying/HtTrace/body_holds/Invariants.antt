@@ -2,7 +2,7 @@ use Rattle.std.proofs.Common.{◌≡◌, drop}
 use Rattle.tel_semantics.specs.Traces.{test_of}
 use Rattle.tel_semantics.specs.Satisfaction.{sat}
 use Rattle.tel_semantics.specs.Theory.{body_formula}
-use Rattle.tel_semantics.proofs.satisfying.Pair.body_holds.Given as goal
+use Rattle.tel_semantics.proofs.satisfying.HtTrace.body_holds.Given as goal
 
 abbrev pub invariant-loop-literal : goal.invariant-loop-literal
 invariant-loop-literal l =

@@ -1,6 +1,6 @@
 use Rattle.std.proofs.Common.{sym, arith, rules}
 use Rattle.tel_semantics.proofs.Quantifiers.{each_below-all, each_below-false}
-use Rattle.tel_semantics.proofs.satisfying.Pair.meets_everywhere.Goals as goal
+use Rattle.tel_semantics.proofs.satisfying.HtTrace.meets_everywhere.Goals as goal
 
 pub returns-then-not-meets_at : goal.returns-then-not-meets_at
 returns-then-not-meets_at c =

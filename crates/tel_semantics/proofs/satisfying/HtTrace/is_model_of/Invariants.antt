@@ -3,7 +3,7 @@ use Rattle.std.specs.List.{list_all}
 use Rattle.tel_rule.specs.declared.ground.Instance.{Instance}
 use Rattle.tel_semantics.specs.Traces.{test_of}
 use Rattle.tel_semantics.specs.Theory.{demand_of, meets}
-use Rattle.tel_semantics.proofs.satisfying.Pair.is_model_of.Given as goal
+use Rattle.tel_semantics.proofs.satisfying.HtTrace.is_model_of.Given as goal
 
 abbrev pub invariant-loop-instance : goal.invariant-loop-instance
 invariant-loop-instance l =

@@ -4,7 +4,7 @@ use Rattle.tel_rule.specs.declared.ground.Instance.{Instance}
 use Rattle.tel_semantics.specs.Traces.{test_of}
 use Rattle.tel_semantics.specs.Theory.{demand_of, meets}
 use Rattle.tel_semantics.proofs.ListSteps.{list_all_failed, list_all_passed}
-use Rattle.tel_semantics.proofs.satisfying.Pair.is_model_of.Goals as goal
+use Rattle.tel_semantics.proofs.satisfying.HtTrace.is_model_of.Goals as goal
 
 pub returns-then-not-meets_everywhere : goal.returns-then-not-meets_everywhere
 returns-then-not-meets_everywhere c =

@@ -2,7 +2,7 @@ use Rattle.std.proofs.Common.{◌≡◌, ℕ, ◌<◌, true, not, ◌||◌}
 use Rattle.tel_semantics.specs.Traces.{test_of}
 use Rattle.tel_semantics.specs.Satisfaction.{sat}
 use Rattle.tel_semantics.specs.Theory.{instance_formula, is_demanded}
-use Rattle.tel_semantics.proofs.satisfying.Pair.meets_everywhere.Given as goal
+use Rattle.tel_semantics.proofs.satisfying.HtTrace.meets_everywhere.Given as goal
 
 abbrev pub invariant-loop-k : goal.invariant-loop-k
 invariant-loop-k l =
