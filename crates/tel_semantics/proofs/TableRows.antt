@@ -53,6 +53,9 @@ follows_table f g n H T k =
     let at_f = sat f n H T in
     let at_g = sat g n H T in
     record {
+      true_row = refl;
+      false_row = λ h. false≢true h;
+      atom_row = λ atom. (λ h. h, λ h. h);
       and_row = and_iff (at_f k) (at_g k);
       or_row = or_iff (at_f k) (at_g k);
       arrow_row = arrow_iff (at_f k) (at_g k) (sat f n T T k) (sat g n T T k);

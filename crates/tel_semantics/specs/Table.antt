@@ -1,7 +1,7 @@
 -- The table of satisfaction with its "some j" and "every j" over all numbers, and what the other operators mean in words.
 use Rattle.std.specs.Prelude.{◌≡◌, ℕ, ◌+◌, ◌-◌, ◌<◌, ◌≤◌, ◌⊎◌, ◌↔◌, IsTrue}
 use Rattle.tel_semantics.specs.Traces.{Test}
-use Rattle.tel_semantics.specs.Formula.{Formula, And, Or, Arrow, Previous, Since, Trigger, Next, Until, Release, negation, initial, final, weak_previous, weak_next, always_before, eventually_before, always_after, eventually_after, initially, finally}
+use Rattle.tel_semantics.specs.Formula.{Formula, True, False, Atom, And, Or, Arrow, Previous, Since, Trigger, Next, Until, Release, negation, initial, final, weak_previous, weak_next, always_before, eventually_before, always_after, eventually_after, initially, finally}
 use Rattle.tel_semantics.specs.Satisfaction.{sat}
 
 -- f holds at the instant k of (H, T)
@@ -10,6 +10,9 @@ Holds f n H T k = IsTrue (sat f n H T k)
 
 -- what each operator holds exactly where
 pub record FollowsTable (f g : Formula) (n : ℕ) (H T : Test) (k : ℕ) : Type 0 where
+  pub true_row : Holds True n H T k
+  pub false_row : Holds False n H T k → ⊥
+  pub atom_row : (atom : ℕ) → Holds (Atom atom) n H T k ↔ IsTrue (H k atom)
   pub and_row : Holds (And f g) n H T k ↔ (Holds f n H T k × Holds g n H T k)
   pub or_row : Holds (Or f g) n H T k ↔ (Holds f n H T k ⊎ Holds g n H T k)
   pub arrow_row : Holds (Arrow f g) n H T k ↔ ((Holds f n H T k → Holds g n H T k) × (Holds f n T T k → Holds g n T T k))
