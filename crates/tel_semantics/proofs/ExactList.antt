@@ -1,8 +1,9 @@
 -- The list of a length has exactly the temporal equilibrium models.
-use Rattle.std.proofs.Common.{◌≡◌, ℕ, zero, suc, Bool, true, false, not, ◌&&◌, ◌||◌, List, [], ◌∷◌, length, map, refl, sym, ap, subst, ◌∙◌, ⊎_elim, arith}
+use Rattle.std.proofs.Common.{◌≡◌, ◌<◌, ℕ, zero, suc, Bool, true, false, not, ◌&&◌, ◌||◌, List, [], ◌∷◌, length, map, refl, sym, ap, subst, ◌∙◌, ⊎_elim, arith}
 use Rattle.std.specs.Prelude.{nat_lt, ◌↔◌, if◌then◌else◌}
 use Rattle.std.specs.List.{list_all, Contains}
 use Rattle.std.proofs.lemmas.Bool.{and_parts, and_from, or_cases, or_left, or_right, or_parts, cases_Bool, not-true, not-false, false≢true}
+use Rattle.std.proofs.lemmas.List.Folds.{list_all-map}
 use Rattle.tel_rule.specs.declared.ground.Instance.{Instance}
 use Rattle.tel_rule.specs.declared.ground.GroundHead.{GroundHead}
 use Rattle.tel_rule.specs.declared.ground.GroundHead.TheVariants as heads
@@ -17,7 +18,7 @@ use Rattle.tel_semantics.specs.Theory.{Demand, item_formula, literal_formula, bo
 use Rattle.tel_semantics.specs.Lists.{traces_below, all_traces, full_trace}
 use Rattle.tel_semantics.specs.Equilibrium.{is_minimal, tem, list_of}
 use Rattle.tel_semantics.specs.Laws.{IsEquilibrium}
-use Rattle.tel_semantics.proofs.Quantifiers.{each_below-at, each_below-same, each_below-fails}
+use Rattle.tel_semantics.proofs.Quantifiers.{each_below-all, each_below-at, each_below-same, each_below-fails}
 use Rattle.tel_semantics.proofs.SatLaws.{sat-agree}
 use Rattle.tel_semantics.proofs.Members.{In, In-filter, In-filter_from, In-list_all, list_all-from_In, In-from_Contains, Contains-from_In}
 use Rattle.tel_semantics.proofs.Below.{Under-traces_below, traces_below-Under, Under-full, full-Under, list_of-suc}
@@ -137,3 +138,16 @@ list_from_equilibrium program (suc n) trace e =
 pub list_of-equilibria : (program : Ground) (n : ℕ) (trace : List (List ℕ)) → IsGround program.atoms program.instances → Contains (list_of program n) trace ↔ IsEquilibrium program n trace
 list_of-equilibria program n trace ground =
     (λ h. equilibrium_from_list program n trace ground (In-from_Contains (list_of program n) trace h), λ e. Contains-from_In (list_of program n) trace (list_from_equilibrium program n trace e))
+
+unless : (b c : Bool) → (b ≡ true → c ≡ true) → (not b || c) ≡ true
+unless true c h = h refl
+unless false c h = refl
+
+unless_at : (b c : Bool) → (not b || c) ≡ true → b ≡ true → c ≡ true
+unless_at true c h t = h
+unless_at false c h t = absurd (false≢true t)
+
+pub models_meet_all : (program : Ground) (n : ℕ) (H T : Test) → is_model (theory program) n H T ≡ true ↔ ((instance : Instance) → Contains program.instances instance → (k : ℕ) → k < n → is_demanded instance.part n k ≡ true → sat (instance_formula instance) n H T k ≡ true)
+models_meet_all program n H T =
+    let over = list_all-map (meets n H T) demand_of program.instances in
+    (λ h instance found k l d. let met = In-list_all (λ (i : Instance). meets n H T (demand_of i)) instance program.instances (sym over ∙ h) (In-from_Contains program.instances instance found) in unless_at (is_demanded instance.part n k) (sat (instance_formula instance) n H T k) (each_below-at n (λ j. not (is_demanded instance.part n j) || sat (instance_formula instance) n H T j) met k l) d, λ h. over ∙ list_all-from_In (λ (i : Instance). meets n H T (demand_of i)) program.instances (λ instance found. each_below-all n (λ j. not (is_demanded instance.part n j) || sat (instance_formula instance) n H T j) (λ k l. unless (is_demanded instance.part n k) (sat (instance_formula instance) n H T k) (h instance (Contains-from_In program.instances instance found) k l))))

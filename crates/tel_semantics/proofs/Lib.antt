@@ -6,3 +6,4 @@ pub mod Below
 pub mod Minimal
 pub mod ExactList
 pub mod Ordered
+pub mod TableRows

@@ -2,7 +2,7 @@
 use Rattle.std.proofs.Common.{◌≡◌, ℕ, ◌+◌, ◌-◌, ◌<◌, Bool, true, false, not, ◌&&◌, ◌||◌, refl, ap, ⊎_elim, arith}
 use Rattle.std.specs.Prelude.{nat_lt, nat_le, IsTrue}
 use Rattle.std.proofs.lemmas.Bool.{and_parts, and_from, or_cases, or_left, or_right, ltb-true, false≢true}
-use Rattle.tel_semantics.specs.Traces.{Test, Agree, IsBelow}
+use Rattle.tel_semantics.specs.Traces.{Test, each_below, some_below, Agree, IsBelow}
 use Rattle.tel_semantics.specs.Formula.{Formula, True, False, Atom, And, Or, Arrow, Previous, Since, Trigger, Next, Until, Release, atoms_below, negation}
 use Rattle.tel_semantics.specs.Satisfaction.{sat}
 use Rattle.tel_semantics.proofs.Quantifiers.{each_below-same, some_below-same, each_below-weaker, some_below-weaker}
@@ -41,13 +41,13 @@ sat-agree (Previous f) n count H T S U a d e k l =
     guarded_same (nat_lt 0 k) (sat f n H T (k - 1)) (sat f n S U (k - 1)) (λ _. sat-agree f n count H T S U a d e (k - 1) (omega arith))
 sat-agree (Since f g) n count H T S U a d e k l =
     let both = and_parts (atoms_below count f) (atoms_below count g) a in
-    some_below-same (k + 1) _ _ (λ j below.
+    some_below-same (k + 1) (λ j. sat g n H T j && each_below (k + 1) (λ i. not (nat_lt j i) || sat f n H T i)) (λ j. sat g n S U j && each_below (k + 1) (λ i. not (nat_lt j i) || sat f n S U i)) (λ j below.
     let of_g = sat-agree g n count H T S U both.1 d e j (omega arith) in
     let of_f = each_below-same (k + 1) (λ i. not (nat_lt j i) || sat f n H T i) (λ i. not (nat_lt j i) || sat f n S U i) (λ i up. ap (λ (b : Bool). not (nat_lt j i) || b) (sat-agree f n count H T S U both.0 d e i (omega arith))) in
     cc)
 sat-agree (Trigger f g) n count H T S U a d e k l =
     let both = and_parts (atoms_below count f) (atoms_below count g) a in
-    each_below-same (k + 1) _ _ (λ j below.
+    each_below-same (k + 1) (λ j. sat g n H T j || some_below (k + 1) (λ i. nat_lt j i && sat f n H T i)) (λ j. sat g n S U j || some_below (k + 1) (λ i. nat_lt j i && sat f n S U i)) (λ j below.
     let of_g = sat-agree g n count H T S U both.1 d e j (omega arith) in
     let of_f = some_below-same (k + 1) (λ i. nat_lt j i && sat f n H T i) (λ i. nat_lt j i && sat f n S U i) (λ i up. ap (λ (b : Bool). nat_lt j i && b) (sat-agree f n count H T S U both.0 d e i (omega arith))) in
     cc)
@@ -55,13 +55,13 @@ sat-agree (Next f) n count H T S U a d e k l =
     guarded_same (nat_lt (k + 1) n) (sat f n H T (k + 1)) (sat f n S U (k + 1)) (λ h. sat-agree f n count H T S U a d e (k + 1) (ltb-true (k + 1) n h))
 sat-agree (Until f g) n count H T S U a d e k l =
     let both = and_parts (atoms_below count f) (atoms_below count g) a in
-    some_below-same n _ _ (λ j below.
+    some_below-same n (λ j. nat_le k j && (sat g n H T j && each_below j (λ i. not (nat_le k i) || sat f n H T i))) (λ j. nat_le k j && (sat g n S U j && each_below j (λ i. not (nat_le k i) || sat f n S U i))) (λ j below.
     let of_g = sat-agree g n count H T S U both.1 d e j below in
     let of_f = each_below-same j (λ i. not (nat_le k i) || sat f n H T i) (λ i. not (nat_le k i) || sat f n S U i) (λ i up. ap (λ (b : Bool). not (nat_le k i) || b) (sat-agree f n count H T S U both.0 d e i (omega arith))) in
     cc)
 sat-agree (Release f g) n count H T S U a d e k l =
     let both = and_parts (atoms_below count f) (atoms_below count g) a in
-    each_below-same n _ _ (λ j below.
+    each_below-same n (λ j. not (nat_le k j) || (sat g n H T j || some_below j (λ i. nat_le k i && sat f n H T i))) (λ j. not (nat_le k j) || (sat g n S U j || some_below j (λ i. nat_le k i && sat f n S U i))) (λ j below.
     let of_g = sat-agree g n count H T S U both.1 d e j below in
     let of_f = some_below-same j (λ i. nat_le k i && sat f n H T i) (λ i. nat_le k i && sat f n S U i) (λ i up. ap (λ (b : Bool). nat_le k i && b) (sat-agree f n count H T S U both.0 d e i (omega arith))) in
     cc)
@@ -90,19 +90,19 @@ sat-persists (Previous f) n count H T a d k l h =
     and_weaker (nat_lt 0 k) (sat f n H T (k - 1)) (nat_lt 0 k) (sat f n T T (k - 1)) (λ p. p) (sat-persists f n count H T a d (k - 1) (omega arith)) h
 sat-persists (Since f g) n count H T a d k l h =
     let both = and_parts (atoms_below count f) (atoms_below count g) a in
-    some_below-weaker (k + 1) _ _ (λ j below. and_weaker _ _ _ _ (sat-persists g n count H T both.1 d j (omega arith)) (each_below-weaker (k + 1) _ _ (λ i up. or_weaker (not (nat_lt j i)) (sat f n H T i) (not (nat_lt j i)) (sat f n T T i) (λ p. p) (sat-persists f n count H T both.0 d i (omega arith))))) h
+    some_below-weaker (k + 1) (λ j. sat g n H T j && each_below (k + 1) (λ i. not (nat_lt j i) || sat f n H T i)) (λ j. sat g n T T j && each_below (k + 1) (λ i. not (nat_lt j i) || sat f n T T i)) (λ j below. and_weaker _ _ _ _ (sat-persists g n count H T both.1 d j (omega arith)) (each_below-weaker (k + 1) _ _ (λ i up. or_weaker (not (nat_lt j i)) (sat f n H T i) (not (nat_lt j i)) (sat f n T T i) (λ p. p) (sat-persists f n count H T both.0 d i (omega arith))))) h
 sat-persists (Trigger f g) n count H T a d k l h =
     let both = and_parts (atoms_below count f) (atoms_below count g) a in
-    each_below-weaker (k + 1) _ _ (λ j below. or_weaker _ _ _ _ (sat-persists g n count H T both.1 d j (omega arith)) (some_below-weaker (k + 1) _ _ (λ i up. and_weaker (nat_lt j i) (sat f n H T i) (nat_lt j i) (sat f n T T i) (λ p. p) (sat-persists f n count H T both.0 d i (omega arith))))) h
+    each_below-weaker (k + 1) (λ j. sat g n H T j || some_below (k + 1) (λ i. nat_lt j i && sat f n H T i)) (λ j. sat g n T T j || some_below (k + 1) (λ i. nat_lt j i && sat f n T T i)) (λ j below. or_weaker _ _ _ _ (sat-persists g n count H T both.1 d j (omega arith)) (some_below-weaker (k + 1) _ _ (λ i up. and_weaker (nat_lt j i) (sat f n H T i) (nat_lt j i) (sat f n T T i) (λ p. p) (sat-persists f n count H T both.0 d i (omega arith))))) h
 sat-persists (Next f) n count H T a d k l h =
     let parts = and_parts (nat_lt (k + 1) n) (sat f n H T (k + 1)) h in
     and_from (nat_lt (k + 1) n) (sat f n T T (k + 1)) parts.0 (sat-persists f n count H T a d (k + 1) (ltb-true (k + 1) n parts.0) parts.1)
 sat-persists (Until f g) n count H T a d k l h =
     let both = and_parts (atoms_below count f) (atoms_below count g) a in
-    some_below-weaker n _ _ (λ j below. and_weaker (nat_le k j) _ (nat_le k j) _ (λ p. p) (and_weaker _ _ _ _ (sat-persists g n count H T both.1 d j below) (each_below-weaker j _ _ (λ i up. or_weaker (not (nat_le k i)) (sat f n H T i) (not (nat_le k i)) (sat f n T T i) (λ p. p) (sat-persists f n count H T both.0 d i (omega arith)))))) h
+    some_below-weaker n (λ j. nat_le k j && (sat g n H T j && each_below j (λ i. not (nat_le k i) || sat f n H T i))) (λ j. nat_le k j && (sat g n T T j && each_below j (λ i. not (nat_le k i) || sat f n T T i))) (λ j below. and_weaker (nat_le k j) _ (nat_le k j) _ (λ p. p) (and_weaker _ _ _ _ (sat-persists g n count H T both.1 d j below) (each_below-weaker j _ _ (λ i up. or_weaker (not (nat_le k i)) (sat f n H T i) (not (nat_le k i)) (sat f n T T i) (λ p. p) (sat-persists f n count H T both.0 d i (omega arith)))))) h
 sat-persists (Release f g) n count H T a d k l h =
     let both = and_parts (atoms_below count f) (atoms_below count g) a in
-    each_below-weaker n _ _ (λ j below. or_weaker (not (nat_le k j)) _ (not (nat_le k j)) _ (λ p. p) (or_weaker _ _ _ _ (sat-persists g n count H T both.1 d j below) (some_below-weaker j _ _ (λ i up. and_weaker (nat_le k i) (sat f n H T i) (nat_le k i) (sat f n T T i) (λ p. p) (sat-persists f n count H T both.0 d i (omega arith)))))) h
+    each_below-weaker n (λ j. not (nat_le k j) || (sat g n H T j || some_below j (λ i. nat_le k i && sat f n H T i))) (λ j. not (nat_le k j) || (sat g n T T j || some_below j (λ i. nat_le k i && sat f n T T i))) (λ j below. or_weaker (not (nat_le k j)) _ (not (nat_le k j)) _ (λ p. p) (or_weaker _ _ _ _ (sat-persists g n count H T both.1 d j below) (some_below-weaker j _ _ (λ i up. and_weaker (nat_le k i) (sat f n H T i) (nat_le k i) (sat f n T T i) (λ p. p) (sat-persists f n count H T both.0 d i (omega arith)))))) h
 
 -- with here below there, a negation is the same in both
 negated_same : (here there : Bool) → (here ≡ true → there ≡ true) → ((not here || false) && (not there || false)) ≡ ((not there || false) && (not there || false))

@@ -1,11 +1,12 @@
 -- Laws of the definitions.
 use Rattle.std.specs.Prelude.{◌≡◌, ℕ, ◌<◌, List, length, IsTrue, IsFalse, ◌↔◌}
 use Rattle.std.specs.List.{Contains, AllPairs}
+use Rattle.tel_rule.specs.declared.ground.Instance.{Instance}
 use Rattle.tel_rule.specs.Ground.{Ground, IsGround}
 use Rattle.tel_semantics.specs.Traces.{Test, test_of, IsTrace, IsBelow, Agree, Differ}
 use Rattle.tel_semantics.specs.Formula.{Formula, atoms_below, negation}
 use Rattle.tel_semantics.specs.Satisfaction.{sat}
-use Rattle.tel_semantics.specs.Theory.{theory, is_model}
+use Rattle.tel_semantics.specs.Theory.{theory, is_model, instance_formula, is_demanded}
 use Rattle.tel_semantics.specs.Equilibrium.{list_of}
 use Rattle.tel_semantics.specs.Order.{Precedes}
 
@@ -23,6 +24,11 @@ Persists =
 abbrev pub NegationIsThere : Type 0
 NegationIsThere =
     (f : Formula) (n count : ℕ) (H T : Test) → IsTrue (atoms_below count f) → IsBelow n count H T → (k : ℕ) → k < n → sat (negation f) n H T k ≡ sat (negation f) n T T k
+
+-- (H, T) is a model exactly where each instance holds, as body -> head, at each instant at which its part demands it
+abbrev pub ModelsMeetAll : Type 0
+ModelsMeetAll =
+    (program : Ground) (n : ℕ) (H T : Test) → IsTrue (is_model (theory program) n H T) ↔ ((instance : Instance) → Contains program.instances instance → (k : ℕ) → k < n → IsTrue (is_demanded instance.part n k) → IsTrue (sat (instance_formula instance) n H T k))
 
 -- T is a trace of this length over the atoms, (T, T) is a model, and no (H, T) is one whose H, any test, is below T and differs
 pub record IsEquilibrium (program : Ground) (n : ℕ) (trace : List (List ℕ)) : Type 0 where

@@ -2,6 +2,7 @@ pub mod Print
 pub mod Traces
 pub mod Formula
 pub mod Satisfaction
+pub mod Table
 pub mod Theory
 pub mod Lists
 pub mod Equilibrium

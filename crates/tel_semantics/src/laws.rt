@@ -1,6 +1,19 @@
 //! Laws of the definitions: functions that do nothing, whose contracts are proved facts.
 
-ghost use Rattle.tel_semantics.specs.Laws.{LooksInRange, Persists, NegationIsThere, ListsEquilibria, ListRises};
+ghost use Rattle.tel_semantics.specs.Table.{SatisfactionIsTable, OperatorsMeanTheirNames};
+ghost use Rattle.tel_semantics.specs.Laws.{LooksInRange, Persists, NegationIsThere, ModelsMeetAll, ListsEquilibria, ListRises};
+
+/// Satisfaction is the table of the published logic, row by row, with its "some" and "every" over
+/// all numbers.
+pub fn table()
+    ensures { SatisfactionIsTable }
+{}
+
+/// The abbreviations mean what they are called: final is the last instant, always after is every
+/// instant from this one on, and so on.
+pub fn operators()
+    ensures { OperatorsMeanTheirNames }
+{}
 
 /// Satisfaction looks only at instants below the length, and at the atoms of the formula.
 pub fn agreement()
@@ -15,6 +28,12 @@ pub fn persistence()
 /// A negation holds in an HT-trace `(H, T)` exactly where it holds in `(T, T)`.
 pub fn negation_there()
     ensures { NegationIsThere }
+{}
+
+/// An HT-trace is a model of a program exactly where it satisfies each instance at each instant at
+/// which the instance's part demands it.
+pub fn models()
+    ensures { ModelsMeetAll }
 {}
 
 /// A trace is in the list of a length exactly where it is a trace of that length over the program's

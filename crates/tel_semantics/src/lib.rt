@@ -11,5 +11,7 @@ mod satisfying;
 mod tests;
 
 pub use ends::How;
-pub use laws::{agreement, equilibria, negation_there, persistence, rising_list};
+pub use laws::{
+    agreement, equilibria, models, negation_there, operators, persistence, rising_list, table,
+};
 pub use listing::plain_list;

@@ -27,7 +27,7 @@ fn has_all_at(small: &[State], large: &[State], count: u32, k: usize) -> bool
 }
 
 /// Whether what is true in `large` is true in `small`.
-pub fn has_all(small: &[State], large: &[State], count: u32, length: usize) -> bool
+fn has_all(small: &[State], large: &[State], count: u32, length: usize) -> bool
     ensures { result ≡ is_below length count (test_of large.now) (test_of small.now) }
 {
     for k in 0..length {
