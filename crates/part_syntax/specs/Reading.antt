@@ -1,4 +1,5 @@
--- What reading gives, by recursion on the bytes and on the tokens.
+-- Reading, by recursion on the bytes and on the tokens. Only private functions are held to it; the public
+-- contracts speak of the grammar.
 use Rattle.std.specs.Prelude.{ℕ, Bool, true, false, map, List, [], ◌∷◌, ◌++◌, Option, Some, None, option_and_then, ◌==◌, if◌then◌else◌}
 use Rattle.std.specs.Option.{option_map}
 use Rattle.tel_rule.specs.declared.rules.Rule.{Rule}

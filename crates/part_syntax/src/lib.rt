@@ -8,3 +8,6 @@ mod statements;
 
 pub use fault::ReadFault;
 pub use reader::{one_program, read};
+
+#[cfg(test)]
+mod tests;
