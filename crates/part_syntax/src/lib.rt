@@ -1,6 +1,7 @@
 //! Reads the text of a propositional temporal logic program.
 #![tactic(auto)]
 
+mod bodies;
 mod fault;
 mod lexer;
 mod reader;
