@@ -18,11 +18,6 @@ front_none front whole rest so_far step = so_far ∙ ap (with_front front) step
 pub front_end : {X : Type 0} (front : List X) (whole rest : Option (List X)) → whole ≡ with_front front rest → rest ≡ Some [] → whole ≡ Some front
 front_end front whole rest so_far step = so_far ∙ ap (with_front front) step ∙ ap Some (append-nil front)
 
--- nothing was read before
-pub front_empty : {X : Type 0} (read : Option (List X)) → read ≡ with_front [] read
-front_empty None = refl
-front_empty (Some more) = refl
-
 -- the parts of a list with one more in front
 pub with_first_some : {X : Type 0} (x : X) (read : Option (List X)) (all : List X) → with_first x read ≡ Some all → (more : List X) × (read ≡ Some more) × (all ≡ x ∷ more)
 with_first_some x None all e = absurd cc

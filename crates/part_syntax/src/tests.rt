@@ -87,6 +87,33 @@ fn facts(rt: HostRuntime) -> Result<(), Fail> {
 }
 
 #[test]
+fn rules(rt: HostRuntime) -> Result<(), Fail> {
+    for (text, want) in [
+        ("a :- not b. b :- not a.", "a not b;b not a;"),
+        ("p :- .", "p;"),
+        (":- .", "none;"),
+        (":-a,not b.", "none a not b;"),
+        ("a:-b.c.", "a b;c;"),
+        ("a :- not\tb,\nnothing ,notc.", "a not b nothing notc;"),
+        ("a :- , b.", "syntax"),
+        ("a :- b,.", "syntax"),
+        ("a :- b c.", "syntax"),
+        ("a : - b.", "syntax"),
+        ("a :", "syntax"),
+        ("a :- not not b.", "syntax"),
+        ("a :- not.", "syntax"),
+        ("not :- a.", "syntax"),
+        ("a, b.", "syntax"),
+        ("a :- b :- c.", "syntax"),
+        ("a:-b", "syntax"),
+    ] {
+        let got = told(rt.alloc(), [text.as_bytes()].as_slice())?;
+        assert_eq!(rt; got.as_slice(), want.as_bytes(), "at {text}");
+    }
+    Ok(())
+}
+
+#[test]
 fn several_texts(rt: HostRuntime) -> Result<(), Fail> {
     let two = told(
         rt.alloc(),
