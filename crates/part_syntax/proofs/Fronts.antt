@@ -3,7 +3,7 @@ use Rattle.std.proofs.Common.{◌≡◌, ◌+◌, suc, Bool, true, false, cond, 
 use Rattle.std.specs.List.{list_all, prefix_len}
 use Rattle.std.proofs.lemmas.List.{append-nil}
 use Rattle.std.proofs.lemmas.Bool.{cases_Bool, and_parts, and_from}
-use Rattle.part_syntax.specs.Reading.{with_first, with_front}
+use Rattle.part_syntax.specs.Reading.{with_first, with_next, with_front}
 
 -- one more was read
 pub front_more : {X : Type 0} (front : List X) (x : X) (whole rest after : Option (List X)) → whole ≡ with_front front rest → rest ≡ with_first x after → whole ≡ with_front (front ++ x ∷ []) after
@@ -18,15 +18,14 @@ front_none front whole rest so_far step = so_far ∙ ap (with_front front) step
 pub front_end : {X : Type 0} (front : List X) (whole rest : Option (List X)) → whole ≡ with_front front rest → rest ≡ Some [] → whole ≡ Some front
 front_end front whole rest so_far step = so_far ∙ ap (with_front front) step ∙ ap Some (append-nil front)
 
--- nothing was read before
-pub front_empty : {X : Type 0} (read : Option (List X)) → read ≡ with_front [] read
-front_empty None = refl
-front_empty (Some more) = refl
-
 -- the parts of a list with one more in front
 pub with_first_some : {X : Type 0} (x : X) (read : Option (List X)) (all : List X) → with_first x read ≡ Some all → (more : List X) × (read ≡ Some more) × (all ≡ x ∷ more)
 with_first_some x None all e = absurd cc
 with_first_some x (Some more) all e = (more, refl, cc)
+
+pub with_next_some : {X : Type 0} (next : Option X) (read : Option (List X)) (all : List X) → with_next next read ≡ Some all → (x : X) × (next ≡ Some x) × (with_first x read ≡ Some all)
+with_next_some None read all e = absurd cc
+with_next_some (Some x) read all e = (x, refl, e)
 
 -- a test that was passed
 pub passed : {X : Type 0} (b : Bool) (read : Option X) (x : X) → cond b read None ≡ Some x → (b ≡ true) × (read ≡ Some x)

@@ -1,4 +1,5 @@
 pub mod Fronts
 pub mod Lexing
+pub mod OneStatement
 pub mod Parsing
 pub mod Whole

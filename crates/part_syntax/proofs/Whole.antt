@@ -1,5 +1,5 @@
 -- The program of texts: reading gives it exactly where there is one.
-use Rattle.std.proofs.Common.{◌≡◌, ℕ, ◌+◌, ◌≤◌, List, [], ◌∷◌, ◌++◌, length, Option, Some, None, refl, sym, ap, ◌∙◌, append_assoc, arith}
+use Rattle.std.proofs.Common.{◌≡◌, ℕ, ◌+◌, ◌≤◌, List, [], ◌∷◌, ◌++◌, length, Option, Some, None, refl, sym, ap, ◌∙◌, arith}
 use Rattle.std.specs.Prelude.{option_and_then}
 use Rattle.std.proofs.lemmas.List.{length-append}
 use Rattle.std.proofs.lemmas.List.Sums.{sum_by-cons}
@@ -61,16 +61,3 @@ length-program [] rules program = rw program (omega arith)
 length-program (text ∷ texts) rules program =
     let n : length rules ≡ length program.0 + length program.1 = ap length program.2 ∙ length-append program.0 program.1 in
     omega (arith, length-reads text program.0 program.3, length-program texts program.1 program.4, sum_by-cons (λ (t : List ℕ). length t) text texts)
-
--- one more text was read
-pub texts_more : (front : List Rule) (text : List ℕ) (texts : List (List ℕ)) (first : List Rule) (whole : Option (List Rule)) → whole ≡ with_front front (read_texts (text ∷ texts)) → read_text text ≡ Some first → whole ≡ with_front (front ++ first) (read_texts texts)
-texts_more front text texts first whole so_far step =
-    so_far ∙ ap (λ (o : Option (List Rule)). with_front front (option_and_then (λ more. with_front more (read_texts texts)) o)) step ∙ joined front first (read_texts texts)
-  where
-    joined : (front first : List Rule) (read : Option (List Rule)) → with_front front (with_front first read) ≡ with_front (front ++ first) read
-    joined front first None = refl
-    joined front first (Some more) = ap Some (sym (append_assoc front first more))
-
-pub texts_none : (front : List Rule) (text : List ℕ) (texts : List (List ℕ)) (whole : Option (List Rule)) → whole ≡ with_front front (read_texts (text ∷ texts)) → read_text text ≡ None → whole ≡ None
-texts_none front text texts whole so_far step =
-    so_far ∙ ap (λ (o : Option (List Rule)). with_front front (option_and_then (λ more. with_front more (read_texts texts)) o)) step

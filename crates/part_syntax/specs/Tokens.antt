@@ -5,6 +5,9 @@ use Rattle.std.specs.Str.{bytes_eq}
 
 pub data Token : Type 0 where
   Name : List ℕ → Token
+  Not : Token
+  If : Token
+  Comma : Token
   Stop : Token
 
 -- a space, a tab, a carriage return or a line feed
@@ -18,18 +21,24 @@ is_between least most byte = nat_le least byte && nat_le byte most
 abbrev pub is_name_byte : ℕ → Bool
 is_name_byte byte = is_between 97 122 byte || is_between 65 90 byte || is_between 48 57 byte || byte == 95
 
--- a lower-case letter, and then letters, digits and `_`; the word `not` is none
+-- a lower-case letter, and then letters, digits and `_`; the word `not` is no name
 abbrev pub is_name : List ℕ → Bool
 is_name [] = false
 is_name (first ∷ more) = is_between 97 122 first && list_all is_name_byte more && not (bytes_eq (first ∷ more) (codes "not"))
 
 abbrev pub spelling : Token → List ℕ
 spelling (Name name) = name
+spelling Not = codes "not"
+spelling If = codes ":-"
+spelling Comma = codes ","
 spelling Stop = codes "."
 
 -- the bytes of a name token are a name
 abbrev pub IsToken : Token → Type 0
 IsToken (Name name) = IsTrue (is_name name)
+IsToken Not = Unit {0}
+IsToken If = Unit {0}
+IsToken Comma = Unit {0}
 IsToken Stop = Unit {0}
 
 -- the bytes begin with one that passes
@@ -37,9 +46,12 @@ abbrev pub begins : (ℕ → Bool) → List ℕ → Bool
 begins test [] = false
 begins test (first ∷ more) = test first
 
--- no longer token stands there: a name isn't followed by a byte that would go on with it
+-- no longer token stands there: a word isn't followed by a byte that would go on with it
 abbrev pub IsLongest : Token → List ℕ → Type 0
 IsLongest (Name name) rest = IsTrue (not (begins is_name_byte rest))
+IsLongest Not rest = IsTrue (not (begins is_name_byte rest))
+IsLongest If rest = Unit {0}
+IsLongest Comma rest = Unit {0}
 IsLongest Stop rest = Unit {0}
 
 abbrev pub IsBlank : List ℕ → Type 0

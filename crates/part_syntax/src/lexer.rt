@@ -1,8 +1,9 @@
 ghost use Rattle.std.specs.Prelude.{◌≡◌, ◌<◌, ◌≤◌, false, Some, None, length, MatchOption, IfSome, IfOk, IfErr, codes};
 ghost use Rattle.std.specs.List.{prefix_len, list_all};
+ghost use Rattle.std.specs.Option.{option_map};
 ghost use Rattle.std.specs.Str.{bytes_eq};
 ghost use Rattle.part_syntax.specs.Tokens.{is_white, is_between, is_name_byte, is_name, begins};
-ghost use Rattle.part_syntax.specs.Reading.{token_of, tokens_of, with_first, lex, is_inner};
+ghost use Rattle.part_syntax.specs.Reading.{token_of, tokens_of, with_first, lex, word_token, is_inner, is_comma};
 
 use crate::fault::ReadFault;
 use std::alloc::Global;
@@ -11,6 +12,9 @@ use std::alloc::Global;
 #[derive(Clone, Copy, Debug)]
 pub enum Lexeme<'a> {
     Name(&'a [u8]),
+    Not,
+    If,
+    Comma,
     Stop,
 }
 
@@ -20,6 +24,13 @@ impl Lexeme<'_> {
         ensures { result ≡ is_inner (token_of self.now) }
     {
         !matches!(self, Lexeme::Stop)
+    }
+
+    /// Whether it is the comma between two literals.
+    pub fn is_comma(&self) -> bool
+        ensures { result ≡ is_comma (token_of self.now) }
+    {
+        matches!(self, Lexeme::Comma)
     }
 }
 
@@ -99,6 +110,40 @@ fn skip_white(bytes: &[u8]) -> &[u8]
     &bytes[white_len(bytes)..]
 }
 
+/// The token of a whole word.
+fn word_token(word: &[u8]) -> Option<Lexeme<'_>>
+    ensures { option_map token_of result ≡ word_token word.now }
+{
+    if is_not(word) {
+        Some(Lexeme::Not)
+    } else if is_name(word) {
+        Some(Lexeme::Name(word))
+    } else {
+        None
+    }
+}
+
+/// The token at the front that is no word, and the bytes after it.
+fn mark_at(bytes: &[u8]) -> Option<(Lexeme<'_>, &[u8])>
+    requires some { 0 < length bytes.now }
+    requires visible { begins is_white bytes.now ≡ false }
+    requires no_word { prefix_len is_name_byte bytes.now ≡ 0 }
+    ensures token { MatchOption result (lex bytes.now ≡ None)
+        (λ found. lex bytes.now ≡ with_first (token_of found.0) (lex found.1.now)) }
+    ensures shorter { IfSome result (λ found. length found.1.now < length bytes.now) }
+{
+    if let Some(rest) = bytes.strip_prefix(b".".as_slice()) {
+        return Some((Lexeme::Stop, rest));
+    }
+    if let Some(rest) = bytes.strip_prefix(b",".as_slice()) {
+        return Some((Lexeme::Comma, rest));
+    }
+    if let Some(rest) = bytes.strip_prefix(b":-".as_slice()) {
+        return Some((Lexeme::If, rest));
+    }
+    None
+}
+
 /// The token at the front, and the bytes after it.
 fn token_at(bytes: &[u8]) -> Option<(Lexeme<'_>, &[u8])>
     requires some { 0 < length bytes.now }
@@ -108,17 +153,13 @@ fn token_at(bytes: &[u8]) -> Option<(Lexeme<'_>, &[u8])>
     ensures shorter { IfSome result (λ found. length found.1.now < length bytes.now) }
 {
     let length = word_len(bytes);
-    if length > 0 {
-        let word = &bytes[..length];
-        if !is_name(word) {
-            return None;
-        }
-        return Some((Lexeme::Name(word), &bytes[length..]));
+    if length == 0 {
+        return mark_at(bytes);
     }
-    if bytes[0] != b'.' {
+    let Some(token) = word_token(&bytes[..length]) else {
         return None;
-    }
-    Some((Lexeme::Stop, &bytes[1..]))
+    };
+    Some((token, &bytes[length..]))
 }
 
 /// The tokens of a text.

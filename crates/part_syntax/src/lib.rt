@@ -1,6 +1,7 @@
 //! Reads the text of a propositional temporal logic program.
 #![tactic(auto)]
 
+mod bodies;
 mod fault;
 mod lexer;
 mod reader;
@@ -8,3 +9,6 @@ mod statements;
 
 pub use fault::ReadFault;
 pub use reader::{one_program, read};
+
+#[cfg(test)]
+mod tests;

@@ -42,8 +42,10 @@ fn all_rules(alloc: Global, texts: &[Text]) -> Result<Vec<Rule>, ReadFault>
 }
 
 /// Reads the program of these texts: its rules are those of the texts, one text after another. A
-/// text is facts, as `a. b.`, each a name and a stop. A name is a lower-case letter and then
-/// letters, digits and `_`, and isn't `not`. Spaces, tabs and line ends may stand between them.
+/// text is statements, each with a stop at its end: a fact `a.`, a rule `a :- b, not c.`, or a
+/// constraint `:- a, b.`. The body of a rule or a constraint may be empty. A name is a lower-case
+/// letter and then letters, digits and `_`, and isn't `not`. Spaces, tabs and line ends may stand
+/// between tokens. All rules are of the initial part.
 ///
 /// `Syntax` comes exactly where there is no such program. `Memory` is want of memory.
 pub fn read(alloc: Global, texts: &[Text]) -> Result<Program, ReadFault>
