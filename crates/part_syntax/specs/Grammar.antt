@@ -25,7 +25,7 @@ abbrev pub IsLiteral : List Token → PlainLiteral → Type 0
 IsLiteral tokens literal =
     (name : List ℕ) × (((tokens ≡ Name name ∷ []) × (literal ≡ plain true name)) ⊎ ((tokens ≡ Not ∷ Name name ∷ []) × (literal ≡ plain false name)))
 
--- body = literal { "," literal }, or nothing
+-- body = [ literal { "," literal } ]
 abbrev pub IsBody : List Token → List PlainLiteral → Type 0
 IsBody tokens [] = tokens ≡ []
 IsBody tokens (literal ∷ []) = IsLiteral tokens literal
