@@ -1,0 +1,18 @@
+-- How a text is read in pieces.
+use Rattle.std.specs.Prelude.{◌≡◌, ℕ, ◌≤◌, ◌<◌, List, Option, length, take, IfSome}
+
+-- the most bytes that a text may have
+abbrev pub largest_text : ℕ
+largest_text = 1048576
+
+-- the bytes are a front of the text, where that is told
+abbrev pub IsFrontOf : Option (List ℕ) → List ℕ → Type 0
+IsFrontOf told bytes = IfSome told (λ text. (length bytes ≤ length text) × (bytes ≡ take (length bytes) text))
+
+-- the text, where it is told, is this one
+abbrev pub IsTold : Option (List ℕ) → List ℕ → Type 0
+IsTold told text = IfSome told (λ bytes. bytes ≡ text)
+
+-- the text, which is the told one where it is told, has more bytes than a text may have
+abbrev pub HasLargeText : Option (List ℕ) → Type 0
+HasLargeText told = (text : List ℕ) × IsTold told text × (largest_text < length text)
