@@ -50,6 +50,7 @@ fn all_rules(alloc: Global, texts: &[Text]) -> Result<Vec<Rule>, ReadFault>
 /// `Syntax` comes exactly where there is no such program. `Memory` is want of memory.
 pub fn read(alloc: Global, texts: &[Text]) -> Result<Program, ReadFault>
     ensures ok { IfOk result (λ program. IsProgram texts.now program.rules) }
+    ensures only { IfOk result (λ program. (rules : List Rule) → IsProgram texts.now rules → rules ≡ program.rules) }
     ensures syntax { IfErr result (λ fault. fault ≡ ReadFault.Syntax → (rules : List Rule) → IsProgram texts.now rules → ⊥) }
     ensures few { IfOk result (λ program. length program.rules ≤ total_bytes texts.now) }
 {

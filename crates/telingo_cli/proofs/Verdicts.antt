@@ -3,22 +3,21 @@ use Rattle.std.proofs.Common.{◌≡◌, ℕ, ◌<◌, ◌≤◌, ◌⊎◌, inl
 use Rattle.std.proofs.lemmas.Bool.{false≢true, cases_lt}
 use Rattle.tel_rule.specs.declared.rules.Rule.{Rule}
 use Rattle.part_syntax.specs.Grammar.{IsProgram}
-use Rattle.part_syntax.proofs.Whole.{one_of_each}
 use Rattle.telingo_cli.specs.Reading.{largest_text, IsTold}
 use Rattle.telingo_cli.specs.Naming.{atoms_of, most_atoms}
 use Rattle.telingo_cli.specs.Delivery.{Delivers}
 use Rattle.telingo_cli.specs.Verdict.{Verdict, Accepted, Syntax, Large, IsVerdict, status_of, output_of, large_line, syntax_line, TellsOfText, ComesOfText, models_of, Answers}
 
 -- what is delivered for a text that is a program, whatever its verdict is said to be
-pub program-delivers : (D : ℕ → List ℕ → Type 0) (text : List ℕ) (rules : List Rule) → length text ≤ largest_text → IsProgram (text ∷ []) rules → (length (atoms_of rules) ≤ most_atoms → D (status_of (Accepted rules)) (output_of (Accepted rules))) → (most_atoms < length (atoms_of rules) → D 69 large_line) → (verdict : Verdict) → IsVerdict text verdict → D (status_of verdict) (output_of verdict)
-program-delivers D text rules small program accepted large (Accepted other) v =
-    let same = one_of_each (text ∷ []) rules other program v.1 in
+pub program-delivers : (D : ℕ → List ℕ → Type 0) (text : List ℕ) (rules : List Rule) → length text ≤ largest_text → IsProgram (text ∷ []) rules → ((other : List Rule) → IsProgram (text ∷ []) other → other ≡ rules) → (length (atoms_of rules) ≤ most_atoms → D (status_of (Accepted rules)) (output_of (Accepted rules))) → (most_atoms < length (atoms_of rules) → D 69 large_line) → (verdict : Verdict) → IsVerdict text verdict → D (status_of verdict) (output_of verdict)
+program-delivers D text rules small program only accepted large (Accepted other) v =
+    let same = sym (only other v.1) in
     subst (λ (r : List Rule). D (status_of (Accepted r)) (output_of (Accepted r))) same
     (accepted (subst (λ (r : List Rule). length (atoms_of r) ≤ most_atoms) (sym same) v.2))
-program-delivers D text rules small program accepted large Syntax v = absurd (v.1 rules program)
-program-delivers D text rules small program accepted large Large (inl long) = absurd (omega arith)
-program-delivers D text rules small program accepted large Large (inr v) =
-    let same = one_of_each (text ∷ []) rules v.1.0 program v.1.1 in
+program-delivers D text rules small program only accepted large Syntax v = absurd (v.1 rules program)
+program-delivers D text rules small program only accepted large Large (inl long) = absurd (omega arith)
+program-delivers D text rules small program only accepted large Large (inr v) =
+    let same = sym (only v.1.0 v.1.1) in
     large (subst (λ (r : List Rule). most_atoms < length (atoms_of r)) (sym same) v.1.2)
 
 -- the same for a text that is no program

@@ -7,7 +7,7 @@ pub returns-in-Ok-clause-delivers : goal.returns-in-Ok-clause-delivers
 returns-in-Ok-clause-delivers g c =
     let old = g.O.Sink.bytes c.args.out.now in
     let new = g.O.Sink.bytes c.answer_program.new.out in
-    program-delivers (λ status bytes. Delivers (code_of c.answer_program.result) status bytes old new) c.args.text _ c.requires c.in-Ok.ensures.ok c.answer_program.ensures.accepted c.answer_program.ensures.large
+    program-delivers (λ status bytes. Delivers (code_of c.answer_program.result) status bytes old new) c.args.text _ c.requires c.in-Ok.ensures.ok c.in-Ok.ensures.only c.answer_program.ensures.accepted c.answer_program.ensures.large
 
 pub returns-in-Ok-clause-answers : goal.returns-in-Ok-clause-answers
 returns-in-Ok-clause-answers g c =
