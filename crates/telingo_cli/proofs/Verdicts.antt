@@ -1,12 +1,14 @@
 -- A text has one verdict, and a status that tells of it is the verdict's.
-use Rattle.std.proofs.Common.{◌≡◌, ℕ, ◌<◌, ◌≤◌, ◌⊎◌, inl, inr, Bool, true, false, cond, refl, ◌==◌, List, [], ◌∷◌, Option, Some, length, sym, subst, arith}
+use Rattle.std.proofs.Common.{◌≡◌, ℕ, ◌<◌, ◌≤◌, ◌⊎◌, IsTrue, inl, inr, Bool, true, false, cond, refl, ◌==◌, List, [], ◌∷◌, Option, Some, length, sym, subst, arith}
 use Rattle.std.proofs.lemmas.Bool.{false≢true, cases_lt}
+use Rattle.tel_base.specs.Counts.{Rose, Stands}
+use Rattle.tel_base.proofs.Told.{stands-not-rose}
 use Rattle.tel_rule.specs.declared.rules.Rule.{Rule}
 use Rattle.part_syntax.specs.Grammar.{IsProgram}
 use Rattle.telingo_cli.specs.Reading.{largest_text, IsTold}
 use Rattle.telingo_cli.specs.Naming.{atoms_of, most_atoms}
 use Rattle.telingo_cli.specs.Delivery.{Delivers}
-use Rattle.telingo_cli.specs.Verdict.{Verdict, Accepted, Syntax, Large, IsVerdict, status_of, output_of, large_line, syntax_line, TellsOfText, ComesOfText, models_of, Answers}
+use Rattle.telingo_cli.specs.Verdict.{Verdict, Accepted, Syntax, Large, IsVerdict, status_of, output_of, large_line, syntax_line, TellsOfText, ComesOfText, is_among, models_of, Answers}
 
 -- what is delivered for a text that is a program, whatever its verdict is said to be
 pub program-delivers : (D : ℕ → List ℕ → Type 0) (text : List ℕ) (rules : List Rule) → length text ≤ largest_text → IsProgram (text ∷ []) rules → ((other : List Rule) → IsProgram (text ∷ []) other → other ≡ rules) → (length (atoms_of rules) ≤ most_atoms → D (status_of (Accepted rules)) (output_of (Accepted rules))) → (most_atoms < length (atoms_of rules) → D 69 large_line) → (verdict : Verdict) → IsVerdict text verdict → D (status_of verdict) (output_of verdict)
@@ -72,3 +74,13 @@ kind-not_usage code kind e = false≢true (subst ComesOfText e kind)
 -- a told text is the one that was read
 pub told_text : (told : Option (List ℕ)) (text read : List ℕ) → told ≡ Some text → IsTold told read → text ≡ read
 told_text told text read e is = subst (λ (o : Option (List ℕ)). IsTold o read) e is
+
+-- an accepted text is answered by its status, where no write failed and there was memory
+pub accepted-complete : (rules : List Rule) (code : ℕ) (old new : Option (List ℕ)) (before now : ℕ) → Delivers code (status_of (Accepted rules)) (output_of (Accepted rules)) old new → (code ≡ 74 → Rose before now) → Stands before now → IsTrue (is_among (10 ∷ 20 ∷ 71 ∷ []) code)
+accepted-complete rules code old new before now (inl whole) rose stands =
+    subst (λ (n : ℕ). IsTrue (is_among (10 ∷ 20 ∷ 71 ∷ []) n)) (sym whole.0)
+    (elim (length (models_of rules) == 0) as (λ (none : Bool). IsTrue (is_among (10 ∷ 20 ∷ 71 ∷ []) (cond none 20 10))) [ true ↦ refl | false ↦ refl ])
+accepted-complete rules code old new before now (inr cut) rose stands = elim cut.0 [
+  | inl e ↦ subst (λ (n : ℕ). IsTrue (is_among (10 ∷ 20 ∷ 71 ∷ []) n)) (sym e) refl
+  | inr e ↦ absurd (stands-not-rose before now stands (rose e))
+]

@@ -2,10 +2,11 @@
 ghost use Rattle.std.specs.Prelude.{◌≡◌, ℕ, ◌<◌, ◌≤◌, List, [], ◌∷◌, Option, map, length, IsTrue, IfSome, Some, None, string_bytes};
 ghost use Rattle.tel_base.specs.Bytes.{Appends};
 ghost use Rattle.tel_base.specs.Counts.{Rose, Stands};
+ghost use Rattle.tel_rule.specs.declared.rules.Rule.{Rule};
 ghost use Rattle.telingo_cli.specs.Command.{file_word};
 ghost use Rattle.telingo_cli.specs.Reading.{IsTold, largest_text};
 ghost use Rattle.telingo_cli.specs.Delivery.{code_of, Delivers, TellsFaults};
-ghost use Rattle.telingo_cli.specs.Verdict.{Verdict, IsVerdict, status_of, output_of, TellsOfText, Answers, usage_line, read_line, is_among};
+ghost use Rattle.telingo_cli.specs.Verdict.{Verdict, Accepted, IsVerdict, status_of, output_of, TellsOfText, Answers, usage_line, read_line, is_among};
 ghost use Rattle.telingo_cli.specs.Top.{words_of, IsTextOf, AnswersSome, AnswersWords, FailedRead, KeepsReading, statuses};
 
 use crate::answering::{Refusal, answer, refuse};
@@ -84,6 +85,11 @@ pub fn telingo<S: Source, O: Sink, L: Sink>(
         → Delivers result (status_of verdict) (output_of verdict) (O.bytes out.old) (O.bytes out.new) }
     // 10, 20, 65 and 69 come only with such a verdict, whose whole output was printed.
     ensures answer_only { TellsOfText result → AnswersWords (words_of words.now) (S.text texts.old) result (O.bytes out.old) (O.bytes out.new) }
+
+    // An accepted text is answered by 10 or 20 where no read and no write fails, unless memory runs out.
+    ensures complete { (text : List ℕ) (rules : List Rule) → IsTextOf (words_of words.now) (S.text texts.old) text
+        → Stands (S.faults texts.old) (S.faults texts.new) → Stands (O.faults out.old) (O.faults out.new) → IsVerdict text (Accepted rules)
+        → IsTrue (is_among (10 ∷ 20 ∷ 71 ∷ []) result) }
 
     // A read that failed is delivered as such, 66 comes only with one, and with 10, 20, 64, 65 and 69 none failed.
     ensures read { S.faults texts.old < S.faults texts.new → Delivers result 66 read_line (O.bytes out.old) (O.bytes out.new) }
