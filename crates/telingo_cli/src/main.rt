@@ -9,6 +9,8 @@ mod naming;
 mod printing;
 mod reading;
 mod status;
+#[cfg(test)]
+mod tests;
 mod top;
 
 use status::Status;

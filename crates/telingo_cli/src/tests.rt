@@ -1,0 +1,234 @@
+//! Texts, words and faults with their answers, worked out by hand.
+
+use crate::telingo;
+use std::alloc::{AllocError, Global};
+use std::test::Fail;
+use tel_base::{MemSink, MemSource};
+
+/// What `telingo` answers and prints.
+type Answer = (u8, Vec<u8>);
+
+fn words_of(alloc: Global, words: &[&str]) -> Result<Vec<String>, AllocError> {
+    let mut owned = Vec::new(alloc);
+    for word in words {
+        owned.push(String::from_str(alloc, word)?)?;
+    }
+    Ok(owned)
+}
+
+/// A source of one text under the name `plan`, whose call with this number fails.
+fn source_of(alloc: Global, text: &[u8], fails: u64) -> Result<MemSource, AllocError> {
+    let mut texts = Vec::new(alloc);
+    texts.push((
+        String::from_str(alloc, "plan")?,
+        Vec::from_slice(alloc, text)?,
+    ))?;
+    Ok(MemSource::new(texts, vec![in alloc; fails]?))
+}
+
+/// The answer to these words over this source, into this sink. Nothing may be logged.
+fn answer_to(
+    alloc: Global,
+    words: &[&str],
+    mut texts: MemSource,
+    mut out: MemSink,
+) -> Result<Answer, Fail> {
+    let words = words_of(alloc, words)?;
+    let mut log = MemSink::new(alloc, 64, 64, Vec::new(alloc))?;
+    let status = telingo(alloc, words.as_slice(), &mut texts, &mut out, &mut log);
+    if !log.bytes().is_empty() {
+        return Err(Fail::from("something was logged"));
+    }
+    Ok((status, Vec::from_slice(alloc, out.bytes())?))
+}
+
+/// The answer to a text where no call fails.
+fn answer_of(alloc: Global, text: &[u8]) -> Result<Answer, Fail> {
+    let texts = source_of(alloc, text, 0)?;
+    let out = MemSink::new(alloc, 1024, 1024, Vec::new(alloc))?;
+    answer_to(alloc, ["plan"].as_slice(), texts, out)
+}
+
+#[test]
+fn texts(rt: HostRuntime) -> Result<(), Fail> {
+    for (text, want_status, want) in [
+        ("", 10, "length 1\ntrace\nstate 0:\nend complete 1\n"),
+        (
+            "b. a.b.",
+            10,
+            "length 1\ntrace\nstate 0: a b\nend complete 1\n",
+        ),
+        (
+            "b. aa. a. aB.",
+            10,
+            "length 1\ntrace\nstate 0: a aB aa b\nend complete 1\n",
+        ),
+        (
+            "l.k.j.i.h.g.f.e.d.c.b.a.",
+            10,
+            "length 1\ntrace\nstate 0: a b c d e f g h i j k l\nend complete 1\n",
+        ),
+        ("a.b.c.d.e.f.g.h.i.j.k.l.m.", 69, "error: large\n"),
+        (
+            "a :- b, not c. d :- e. :- f, g, h, not i. j :- k, l, m.",
+            69,
+            "error: large\n",
+        ),
+        ("a.b.c.d.e.f.g.h.i.j.k.l.m", 65, "error: Syntax\n"),
+        ("a", 65, "error: Syntax\n"),
+        ("a. b", 65, "error: Syntax\n"),
+    ] {
+        let (status, printed) = answer_of(rt.alloc(), text.as_bytes())?;
+        assert_eq!(rt; status, want_status, "at {text}");
+        assert_eq!(rt; printed.as_slice(), want.as_bytes(), "at {text}");
+    }
+    Ok(())
+}
+
+#[test]
+fn rules(rt: HostRuntime) -> Result<(), Fail> {
+    let none = "length 1\nend complete 0\n";
+    let empty = "length 1\ntrace\nstate 0:\nend complete 1\n";
+    let a = "length 1\ntrace\nstate 0: a\nend complete 1\n";
+    let b = "length 1\ntrace\nstate 0: b\nend complete 1\n";
+    let a_b = "length 1\ntrace\nstate 0: a b\nend complete 1\n";
+    for (text, want_status, want) in [
+        (
+            "a :- not b. b :- not a.",
+            10,
+            "length 1\ntrace\nstate 0: b\ntrace\nstate 0: a\nend complete 2\n",
+        ),
+        (
+            "a :- not b. b :- not a. c :- a. c :- b.",
+            10,
+            "length 1\ntrace\nstate 0: b c\ntrace\nstate 0: a c\nend complete 2\n",
+        ),
+        (
+            "c :- not d. d :- not c. a :- not b. b :- not a. :- b, d.",
+            10,
+            "length 1\ntrace\nstate 0: b c\ntrace\nstate 0: a d\ntrace\nstate 0: a c\nend complete 3\n",
+        ),
+        (":- not a. a :- not b. b :- not a.", 10, a),
+        ("a :- not b. b :- not a. :- a.", 10, b),
+        ("a :- not a.", 20, none),
+        ("a :- not b. b :- not c. c :- not a.", 20, none),
+        ("a :- not a. a :- b. b :- a.", 20, none),
+        ("a :- a.", 10, empty),
+        ("a :- b. b :- a.", 10, empty),
+        ("a :- b. b :- a. a :- not c.", 10, a_b),
+        ("a :- .", 10, a),
+        (":- .", 20, none),
+        (":- not a.", 20, none),
+        (":- a. :- a, not b.", 10, empty),
+        ("a. :- a.", 20, none),
+        ("a. a. a :- a, a. :- a, not a.", 10, a),
+        ("b. a :- a, b.", 10, b),
+        ("a :- b, not c. b.", 10, a_b),
+        (
+            "nothing. a :- not nothing.",
+            10,
+            "length 1\ntrace\nstate 0: nothing\nend complete 1\n",
+        ),
+    ] {
+        let (status, printed) = answer_of(rt.alloc(), text.as_bytes())?;
+        assert_eq!(rt; status, want_status, "at {text}");
+        assert_eq!(rt; printed.as_slice(), want.as_bytes(), "at {text}");
+    }
+    Ok(())
+}
+
+/// The largest text has its one fact at its end, far behind the first piece; one byte more is large.
+#[test]
+fn sizes(rt: HostRuntime) -> Result<(), Fail> {
+    let alloc = rt.alloc();
+    let mut text = vec![in alloc; b' '; 1_048_574]?;
+    text.extend_from_slice(b"a.".as_slice())?;
+    let (status, printed) = answer_of(alloc, text.as_slice())?;
+    assert_eq!(rt; status, 10);
+    let want = "length 1\ntrace\nstate 0: a\nend complete 1\n";
+    assert_eq!(rt; printed.as_slice(), want.as_bytes());
+    text.push(b'.')?;
+    let (status, printed) = answer_of(alloc, text.as_slice())?;
+    assert_eq!(rt; status, 69);
+    assert_eq!(rt; printed.as_slice(), b"error: large\n".as_slice());
+    Ok(())
+}
+
+/// Three texts, under a name, the hyphen and the empty word. The second read is the one that shows
+/// the end of a short text.
+#[test]
+fn words_and_reads(rt: HostRuntime) -> Result<(), Fail> {
+    let alloc = rt.alloc();
+    let empty = "length 1\ntrace\nstate 0:\nend complete 1\n";
+    let a = "length 1\ntrace\nstate 0: a\nend complete 1\n";
+    let b = "length 1\ntrace\nstate 0: b\nend complete 1\n";
+    for (words, fails, want_status, want) in [
+        ([].as_slice(), 1, 64, "error: usage\n"),
+        (["plan", "plan"].as_slice(), 1, 64, "error: usage\n"),
+        (["-x"].as_slice(), 1, 64, "error: usage\n"),
+        (["--"].as_slice(), 1, 64, "error: usage\n"),
+        (["plan"].as_slice(), 0, 10, empty),
+        (["-"].as_slice(), 0, 10, a),
+        ([""].as_slice(), 0, 10, b),
+        (["missing"].as_slice(), 0, 66, "error: read 1\n"),
+        (["-"].as_slice(), 1, 66, "error: read 1\n"),
+        (["-"].as_slice(), 2, 66, "error: read 1\n"),
+        (["-"].as_slice(), 3, 10, a),
+    ] {
+        let mut texts = Vec::new(alloc);
+        for (name, text) in [("plan", ""), ("-", "a."), ("", "b.")] {
+            texts.push((
+                String::from_str(alloc, name)?,
+                Vec::from_slice(alloc, text.as_bytes())?,
+            ))?;
+        }
+        let source = MemSource::new(texts, vec![in alloc; fails]?);
+        let out = MemSink::new(alloc, 1024, 1024, Vec::new(alloc))?;
+        let (status, printed) = answer_to(alloc, words, source, out)?;
+        assert_eq!(rt; status, want_status, "at {words:?} and {fails}");
+        assert_eq!(rt;
+            printed.as_slice(),
+            want.as_bytes(),
+            "at {words:?} and {fails}"
+        );
+    }
+    Ok(())
+}
+
+#[test]
+fn writes(rt: HostRuntime) -> Result<(), Fail> {
+    let alloc = rt.alloc();
+    let whole = "length 1\ntrace\nstate 0: a\nend complete 1\n";
+    for (text, read, room, most, write, want_status, want) in [
+        ("a.", 0, 64, 4, 2, 74, "leng"),
+        ("a.", 0, 64, 1, 0, 10, whole),
+        (
+            "a.",
+            0,
+            64,
+            1,
+            41,
+            74,
+            "length 1\ntrace\nstate 0: a\nend complete 1",
+        ),
+        ("a.", 0, 20, 64, 0, 74, "length 1\ntrace\nstate"),
+        ("a.", 0, 0, 64, 0, 74, ""),
+        (":- .", 0, 64, 64, 2, 74, "length 1\n"),
+        ("a", 0, 64, 4, 2, 74, "erro"),
+        ("a", 0, 64, 1, 0, 65, "error: Syntax\n"),
+        ("a.", 2, 64, 8, 2, 74, "error: r"),
+        ("a.", 1, 64, 8, 1, 74, ""),
+    ] {
+        prove!(most >= 1);
+        let texts = source_of(alloc, text.as_bytes(), read)?;
+        let out = MemSink::new(alloc, room, most, vec![in alloc; write]?)?;
+        let (status, printed) = answer_to(alloc, ["plan"].as_slice(), texts, out)?;
+        assert_eq!(rt; status, want_status, "at {text}, {room}, {most}, {write}");
+        assert_eq!(rt;
+            printed.as_slice(),
+            want.as_bytes(),
+            "at {text}, {room}, {most}, {write}"
+        );
+    }
+    Ok(())
+}
