@@ -3,7 +3,26 @@
 use crate::telingo;
 use std::alloc::{AllocError, Global};
 use std::test::Fail;
-use tel_base::{MemSink, MemSource};
+use tel_base::{Failed, MemSink, MemSource, Source};
+
+/// A source in memory that gives at most one byte a call.
+#[derive(Drop)]
+struct ByteByByte {
+    texts: MemSource,
+}
+
+impl Source for ByteByByte {
+    ghost text = { λ source. ⟦<MemSource as Source>⟧.text source.texts };
+
+    ghost faults = { λ source. ⟦<MemSource as Source>⟧.faults source.texts };
+
+    ghost failed = { λ source. ⟦<MemSource as Source>⟧.failed source.texts };
+
+    fn read(&mut self, name: &str, from: u64, into: &mut [u8]) -> Result<usize, Failed> {
+        let room = into.len().min(1);
+        self.texts.read(name, from, &mut into[..room])
+    }
+}
 
 /// What `telingo` answers and prints.
 type Answer = (u8, Vec<u8>);
@@ -27,10 +46,10 @@ fn source_of(alloc: Global, text: &[u8], fails: u64) -> Result<MemSource, AllocE
 }
 
 /// The answer to these words over this source, into this sink. Nothing may be logged.
-fn answer_to(
+fn answer_to<S: Source + Drop>(
     alloc: Global,
     words: &[&str],
-    mut texts: MemSource,
+    mut texts: S,
     mut out: MemSink,
 ) -> Result<Answer, Fail> {
     let words = words_of(alloc, words)?;
@@ -229,6 +248,29 @@ fn writes(rt: HostRuntime) -> Result<(), Fail> {
             want.as_bytes(),
             "at {text}, {room}, {most}, {write}"
         );
+    }
+    Ok(())
+}
+
+/// Reads and writes of one byte change nothing.
+#[test]
+fn byte_by_byte(rt: HostRuntime) -> Result<(), Fail> {
+    let alloc = rt.alloc();
+    for (text, want_status, want) in [
+        (
+            "b. ab :- not c.",
+            10,
+            "length 1\ntrace\nstate 0: ab b\nend complete 1\n",
+        ),
+        ("ab", 65, "error: Syntax\n"),
+    ] {
+        let texts = ByteByByte {
+            texts: source_of(alloc, text.as_bytes(), 0)?,
+        };
+        let out = MemSink::new(alloc, 1024, 1, Vec::new(alloc))?;
+        let (status, printed) = answer_to(alloc, ["plan"].as_slice(), texts, out)?;
+        assert_eq!(rt; status, want_status, "at {text}");
+        assert_eq!(rt; printed.as_slice(), want.as_bytes(), "at {text}");
     }
     Ok(())
 }
