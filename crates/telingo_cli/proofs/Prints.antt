@@ -12,13 +12,13 @@ use Rattle.telingo_cli.specs.declared.printing.PrintFault.TheVariants.{Write, Me
 use Rattle.telingo_cli.specs.Printing.{Prints}
 
 -- a call that prints b, after one that has printed a
-pub prints-then : (result : Result (Unit {0}) PrintFault) (a b : List ℕ) (old mid new : Option (List ℕ)) (before between now : ℕ) → Appends old mid a → between ≡ before → Prints result b mid new between now → Prints result (a ++ b) old new before now
+pub prints-then : {T : Type 0} (result : Result T PrintFault) (a b : List ℕ) (old mid new : Option (List ℕ)) (before between now : ℕ) → Appends old mid a → between ≡ before → Prints result b mid new between now → Prints result (a ++ b) old new before now
 prints-then (Ok done) a b old mid new before between now first stands then = (appends-then old mid new a b first then.0, then.1 ∙ stands)
 prints-then (Err Write) a b old mid new before between now first stands then = (front-then old mid new a b first then.0, subst (λ (n : ℕ). Rose n now) stands then.1)
 prints-then (Err Memory) a b old mid new before between now first stands then = (front-then old mid new a b first then.0, then.1 ∙ stands)
 
 -- a call that was cut short while it printed a, where b was to follow
-pub prints-short : (fault : PrintFault) (a b : List ℕ) (old new : Option (List ℕ)) (before now : ℕ) → Prints (Err fault) a old new before now → Prints (Err fault) (a ++ b) old new before now
+pub prints-short : {T : Type 0} (fault : PrintFault) (a b : List ℕ) (old new : Option (List ℕ)) (before now : ℕ) → Prints {T = T} (Err fault) a old new before now → Prints {T = T} (Err fault) (a ++ b) old new before now
 prints-short Write a b old new before now short = (front-in-first old new a b short.0, short.1)
 prints-short Memory a b old new before now short = (front-in-first old new a b short.0, short.1)
 

@@ -1,4 +1,5 @@
-pub mod Command
+pub mod Texts
+pub mod Files
 pub mod Reading
 pub mod Delivery
 pub mod Printing

@@ -7,7 +7,7 @@ use Rattle.telingo_cli.specs.declared.printing.PrintFault.TheVariants.{Write, Me
 
 -- What was added to the sink and what its count of faults says: the bytes and no fault; or a front of
 -- them, and a fault where it is the sink's.
-abbrev pub Prints : Result (Unit {0}) PrintFault → List ℕ → Option (List ℕ) → Option (List ℕ) → ℕ → ℕ → Type 0
+abbrev pub Prints : {T : Type 0} → Result T PrintFault → List ℕ → Option (List ℕ) → Option (List ℕ) → ℕ → ℕ → Type 0
 Prints (Ok done) bytes old new before now = Appends old new bytes × (now ≡ before)
 Prints (Err Write) bytes old new before now = AppendsFront old new bytes × Rose before now
 Prints (Err Memory) bytes old new before now = AppendsFront old new bytes × (now ≡ before)

@@ -1,7 +1,7 @@
 -- How a text is read in pieces.
 use Rattle.std.specs.Prelude.{◌≡◌, ℕ, ◌≤◌, ◌<◌, List, Option, length, take, IfSome}
 
--- the most bytes that a text may have
+-- the most bytes that all texts together may have
 abbrev pub largest_text : ℕ
 largest_text = 1048576
 
@@ -13,6 +13,6 @@ IsFrontOf told bytes = IfSome told (λ text. (length bytes ≤ length text) × (
 abbrev pub IsTold : Option (List ℕ) → List ℕ → Type 0
 IsTold told text = IfSome told (λ bytes. bytes ≡ text)
 
--- the text, which is the told one where it is told, has more bytes than a text may have
-abbrev pub HasLargeText : Option (List ℕ) → Type 0
-HasLargeText told = (text : List ℕ) × IsTold told text × (largest_text < length text)
+-- the text, which is the told one where it is told, has more bytes than this
+abbrev pub HasMore : Option (List ℕ) → ℕ → Type 0
+HasMore told most = (text : List ℕ) × IsTold told text × (most < length text)

@@ -1,38 +1,59 @@
--- What the top call is about: the words, the text of their file, and what is answered.
-use Rattle.std.specs.Prelude.{◌≡◌, ℕ, List, [], ◌∷◌, Option, Some, map, string_bytes, IsTrue, IfSome}
+-- What the top call is about: the words, the texts of their files, and what is answered.
+use Rattle.std.specs.Prelude.{◌≡◌, ℕ, List, [], ◌∷◌, Option, Some, map, string_bytes, IsTrue}
 use Rattle.std.specs.declared.string.String.{String}
 use Rattle.std.specs.declared.alloc.Global.{Global}
-use Rattle.telingo_cli.specs.Command.{file_word}
-use Rattle.telingo_cli.specs.Reading.{IsTold}
 use Rattle.tel_base.specs.Bytes.{Appends}
-use Rattle.tel_base.specs.Counts.{Rose}
+use Rattle.tel_settings.specs.declared.fields.Settings.{Settings}
+use Rattle.tel_settings.specs.declared.fields.Input.{Input}
+use Rattle.tel_settings.specs.declared.fields.Input.TheVariants as inputs
+use Rattle.tel_settings.specs.Command.{settings_of}
+use Rattle.telingo_cli.specs.Texts.{AreTold, AreWhole, FailsAt, first_place}
+use Rattle.telingo_cli.specs.Delivery.{Delivers}
 use Rattle.telingo_cli.specs.Verdict.{Answers, read_line, is_among}
 
 -- the words, each by its bytes
 abbrev pub words_of : List (String Global) → List (List ℕ)
 words_of words = map string_bytes words
 
--- the words name a file, whose whole text is told and is this one
-abbrev pub IsTextOf : List (List ℕ) → (List ℕ → Option (List ℕ)) → List ℕ → Type 0
-IsTextOf words told text = (name : List ℕ) × (file_word words ≡ Some name) × (told name ≡ Some text)
+-- the names of the files; there is none where a text is generated
+abbrev pub files_in : Input → List (List ℕ)
+files_in (inputs.Files files) = files
+files_in (inputs.Number number) = []
 
--- the status and what was added answer a text, which is the told one where it is told
-abbrev pub AnswersSome : Option (List ℕ) → ℕ → Option (List ℕ) → Option (List ℕ) → Type 0
-AnswersSome told status old new = (text : List ℕ) × IsTold told text × Answers text status old new
+abbrev pub files_of : Settings → List (List ℕ)
+files_of settings = files_in settings.input
+
+-- the words are a line of the command with these settings, and the whole texts of its files are told and are these
+pub record AreTextsOf (words : List (List ℕ)) (told : List ℕ → Option (List ℕ)) (settings : Settings) (texts : List (List ℕ)) : Type 0 where
+  pub line : settings_of words ≡ Some settings
+  pub whole : AreWhole told (files_of settings) texts
+
+-- the status and what was added answer texts, which are the told ones where they are told
+abbrev pub AnswersSome : Settings → (List ℕ → Option (List ℕ)) → ℕ → Option (List ℕ) → Option (List ℕ) → Type 0
+AnswersSome settings told status old new = (texts : List (List ℕ)) × AreTold told (files_of settings) texts × Answers settings texts status old new
+
+-- the words are a line of the command, and the status and what was added answer the texts of its files
+abbrev pub AnswersWords : List (List ℕ) → (List ℕ → Option (List ℕ)) → ℕ → Option (List ℕ) → Option (List ℕ) → Type 0
+AnswersWords words told status old new = (settings : Settings) × (settings_of words ≡ Some settings) × AnswersSome settings told status old new
+
+-- a read of a file failed, and what was added is what Says says of the line of the first word of that name
+abbrev pub FailsWith : (ℕ → Type 0) → Settings → (List ℕ → Option (List ℕ)) → Option (List ℕ) → ℕ → ℕ → Type 0
+FailsWith Says settings told failed before now =
+    (name : List ℕ) × FailsAt (files_of settings) told failed before now name × Says (first_place (files_of settings) name)
+
+-- the words are a line of the command, a read of one of its files failed, and the line of that was added
+abbrev pub FailedRead : List (List ℕ) → (List ℕ → Option (List ℕ)) → Option (List ℕ) → ℕ → ℕ → Option (List ℕ) → Option (List ℕ) → Type 0
+FailedRead words told failed before now old new =
+    (settings : Settings) × (settings_of words ≡ Some settings) × FailsWith (λ place. Appends old new (read_line place)) settings told failed before now
+
+-- the same, delivered: the call may have been cut short
+abbrev pub DeliversFailedRead : List (List ℕ) → (List ℕ → Option (List ℕ)) → Option (List ℕ) → ℕ → ℕ → ℕ → Option (List ℕ) → Option (List ℕ) → Type 0
+DeliversFailedRead words told failed before now result old new =
+    (settings : Settings) × (settings_of words ≡ Some settings) × FailsWith (λ place. Delivers result 66 (read_line place) old new) settings told failed before now
 
 -- all statuses
 abbrev pub statuses : List ℕ
 statuses = 10 ∷ 20 ∷ 64 ∷ 65 ∷ 66 ∷ 69 ∷ 71 ∷ 74 ∷ []
-
--- the words name a file, and the status and what was added answer its text, which is the told one where it is told
-abbrev pub AnswersWords : List (List ℕ) → (List ℕ → Option (List ℕ)) → ℕ → Option (List ℕ) → Option (List ℕ) → Type 0
-AnswersWords words told status old new = (name : List ℕ) × (file_word words ≡ Some name) × AnswersSome (told name) status old new
-
--- a read of the file failed, which the source's count tells and, where it tells it, the name; the line of a failed read was added
-pub record FailedRead (words : List (List ℕ)) (failed : Option (List ℕ)) (before now : ℕ) (old new : Option (List ℕ)) : Type 0 where
-  pub rose : Rose before now
-  pub named : IfSome failed (λ name. file_word words ≡ Some name)
-  pub printed : Appends old new read_line
 
 -- a status that comes only where no read failed
 abbrev pub KeepsReading : ℕ → Type 0

@@ -1,33 +1,35 @@
 //! The answer to a text: its verdict, and what is printed for it.
-ghost use Rattle.std.specs.Prelude.{◌≡◌, ℕ, ◌<◌, ◌≤◌, ◌*◌, ◌^◌, ◌==◌, List, [], ◌∷◌, Option, length, if◌then◌else◌};
+ghost use Rattle.std.specs.Prelude.{◌≡◌, ℕ, ◌<◌, ◌≤◌, ◌*◌, ◌^◌, ◌↔◌, List, [], ◌∷◌, Option, length, max, IsTrue, if◌then◌else◌};
 ghost use Rattle.tel_base.specs.Bytes.{Appends};
-ghost use Rattle.tel_rule.specs.Ground.{atom_names};
-ghost use Rattle.tel_semantics.specs.Equilibrium.{list_of};
-ghost use Rattle.tel_semantics.specs.Print.{print};
-ghost use Rattle.tel_semantics.specs.declared.ends.How.TheVariants.{Complete};
+ghost use Rattle.tel_settings.specs.Run.{run_status};
+ghost use Rattle.part_syntax.specs.Grammar.{total_bytes};
 ghost use Rattle.telingo_cli.specs.Reading.{largest_text};
-ghost use Rattle.telingo_cli.specs.Naming.{atoms_of, most_atoms};
+ghost use Rattle.telingo_cli.specs.Naming.{most_atoms};
 ghost use Rattle.telingo_cli.specs.Printing.{Prints};
 ghost use Rattle.telingo_cli.specs.Delivery.{code_of, Delivers, TellsFaults};
-ghost use Rattle.telingo_cli.specs.Verdict.{Verdict, Accepted, status_of_models, large_line, IsVerdict, status_of, output_of, TellsOfText, ComesOfText, Answers};
+ghost use Rattle.telingo_cli.specs.Verdict.{Verdict, Accepted, IsVerdict, places_of, count_of, printed_run, status_of, output_of, large_line, read_line, TellsOfText, ComesOfText, Answers};
 ghost use Rattle.telingo_cli.specs.Refusals.{refusal_status, refusal_line};
 
 use crate::grounding::template;
 use crate::naming::TemplateFault;
-use crate::printing::{PrintFault, print_all, put};
+use crate::printing::{PrintFault, put};
+use crate::running::print_run;
 use crate::status::Status;
+use itoa::Buffer;
 use part_syntax::{ReadFault, read};
 use std::alloc::Global;
 use tel_base::{Sink, Text};
-use tel_rule::{Program, Template, Trace};
-use tel_semantics::{How, plain_list};
+use tel_rule::{Program, Template};
+use tel_settings::Settings;
 
-/// A refusal, which prints one line and nothing else.
+/// The most atoms that all states of the greatest length may have together.
+const MOST_PLACES: u64 = 12;
+
+/// A refusal whose line is always the same.
 #[derive(Clone, Copy, Debug, PartialEq, Eq)]
 pub enum Refusal {
     Usage,
     Syntax,
-    Read,
     Large,
 }
 
@@ -38,7 +40,6 @@ impl Refusal {
         match self {
             Refusal::Usage => Status::Usage,
             Refusal::Syntax => Status::Refused,
-            Refusal::Read => Status::Read,
             Refusal::Large => Status::Large,
         }
     }
@@ -49,7 +50,6 @@ impl Refusal {
         match self {
             Refusal::Usage => b"error: usage\n",
             Refusal::Syntax => b"error: Syntax\n",
-            Refusal::Read => b"error: read 1\n",
             Refusal::Large => b"error: large\n",
         }
     }
@@ -79,69 +79,93 @@ pub fn refuse<O: Sink>(out: &mut O, refusal: Refusal) -> Status
     after_printing(printed, refusal.status())
 }
 
-/// The status of a run that has printed these traces.
-fn status_after(traces: &[Trace]) -> Status
-    ensures { code_of result ≡ status_of_models traces.now }
+/// Prints the line of a failed read of the file word at this place, from 0.
+fn put_read_line<O: Sink>(out: &mut O, place: usize) -> Result<(), PrintFault>
+    requires { place < 2 ^ 63 }
+    ensures { Prints result (read_line place) (O.bytes out.old) (O.bytes out.new) (O.faults out.old) (O.faults out.new) }
 {
-    if traces.is_empty() {
-        Status::NoModel
-    } else {
-        Status::Models
+    let mut digits = Buffer::new();
+    match put(out, b"error: read ") {
+        Ok(()) => {}
+        Err(fault) => return Err(fault),
+    }
+    match put(out, digits.format(place as u64 + 1).as_bytes()) {
+        Ok(()) => put(out, b"\n"),
+        Err(fault) => Err(fault),
     }
 }
 
-/// Prints the temporal equilibrium models of a template, of length `n`.
-fn print_models<O: Sink>(alloc: Global, out: &mut O, template: &Template, n: u32) -> Status
-    requires { length template.now.atoms * n ≤ most_atoms }
-    ensures delivers { Delivers (code_of result) (status_of_models (list_of template.now n))
-        (print (atom_names template.now.atoms) n (list_of template.now n) Complete) (O.bytes out.old) (O.bytes out.new) }
+/// Answers a failed read of the file word at this place, from 0.
+pub fn refuse_read<O: Sink>(out: &mut O, place: usize) -> Status
+    requires { place < 2 ^ 63 }
+    ensures delivers { Delivers (code_of result) 66 (read_line place) (O.bytes out.old) (O.bytes out.new) }
     ensures faults { TellsFaults (code_of result) (O.faults out.old) (O.faults out.new) }
 {
-    match plain_list(alloc, template, n) {
-        Ok(traces) => {
-            let status = status_after(traces.as_slice());
-            let printed = print_all(
-                alloc,
-                out,
-                template.atoms.as_slice(),
-                n,
-                traces.as_slice(),
-                How::Complete,
-            );
-            after_printing(printed, status)
-        }
-        Err(_) => Status::Memory,
+    let printed = put_read_line(out, place);
+    after_printing(printed, Status::Read)
+}
+
+/// The status of a run of which some length has a trace, or none.
+fn status_after(found: bool) -> Status
+    ensures { code_of result ≡ (if found then 10 else 20) }
+{
+    if found { Status::Models } else { Status::NoModel }
+}
+
+/// Prints a run, and answers its status.
+fn answer_template<O: Sink>(alloc: Global, out: &mut O, settings: &Settings, template: &Template) -> Status
+    requires { max settings.now.imax 1 * length template.now.atoms ≤ most_atoms }
+    ensures delivers { Delivers (code_of result) (run_status settings.now (count_of template.now)) (printed_run settings.now template.now) (O.bytes out.old) (O.bytes out.new) }
+    ensures faults { TellsFaults (code_of result) (O.faults out.old) (O.faults out.new) }
+{
+    match print_run(alloc, out, settings, template) {
+        Ok(found) => status_after(found),
+        Err(PrintFault::Write) => Status::Write,
+        Err(PrintFault::Memory) => Status::Memory,
     }
+}
+
+/// Whether a program of so many atoms has too many at the greatest length.
+fn is_too_large(settings: &Settings, atoms: usize) -> bool
+    requires { atoms ≤ most_atoms }
+    ensures { IsTrue result ↔ (most_atoms < max settings.now.imax 1 * atoms) }
+{
+    MOST_PLACES < u64::from(settings.imax.max(1)) * atoms as u64
 }
 
 /// Answers a program, which may have too many names.
-fn answer_program<O: Sink>(alloc: Global, out: &mut O, program: &Program) -> Status
+fn answer_program<O: Sink>(alloc: Global, out: &mut O, settings: &Settings, program: &Program) -> Status
     requires { length program.now.rules < 2 ^ 32 }
-    ensures accepted { length (atoms_of program.now.rules) ≤ most_atoms
-        → Delivers (code_of result) (status_of (Accepted program.now.rules)) (output_of (Accepted program.now.rules)) (O.bytes out.old) (O.bytes out.new) }
-    ensures large { most_atoms < length (atoms_of program.now.rules)
+    ensures accepted { places_of settings.now program.now.rules ≤ most_atoms
+        → Delivers (code_of result) (status_of settings.now (Accepted program.now.rules)) (output_of settings.now (Accepted program.now.rules)) (O.bytes out.old) (O.bytes out.new) }
+    ensures large { most_atoms < places_of settings.now program.now.rules
         → Delivers (code_of result) 69 large_line (O.bytes out.old) (O.bytes out.new) }
     ensures faults { TellsFaults (code_of result) (O.faults out.old) (O.faults out.new) }
 {
     match template(alloc, program) {
-        Ok(template) => print_models(alloc, out, &template, 1),
+        Ok(template) => {
+            if is_too_large(settings, template.atoms.len()) {
+                refuse(out, Refusal::Large)
+            } else {
+                answer_template(alloc, out, settings, &template)
+            }
+        }
         Err(TemplateFault::Large) => refuse(out, Refusal::Large),
         Err(TemplateFault::Memory) => Status::Memory,
     }
 }
 
-/// Answers a text, which isn't too long.
-pub fn answer<O: Sink>(alloc: Global, out: &mut O, text: Text) -> Status
-    requires { length text ≤ largest_text }
-    ensures delivers { (verdict : Verdict) → IsVerdict text verdict
-        → Delivers (code_of result) (status_of verdict) (output_of verdict) (O.bytes out.old) (O.bytes out.new) }
-    ensures answers { TellsOfText (code_of result) → Answers text (code_of result) (O.bytes out.old) (O.bytes out.new) }
+/// Answers texts, which aren't too long.
+pub fn answer<O: Sink>(alloc: Global, out: &mut O, settings: &Settings, texts: &[Text]) -> Status
+    requires { total_bytes texts.now ≤ largest_text }
+    ensures delivers { (verdict : Verdict) → IsVerdict settings.now texts.now verdict
+        → Delivers (code_of result) (status_of settings.now verdict) (output_of settings.now verdict) (O.bytes out.old) (O.bytes out.new) }
+    ensures answers { TellsOfText (code_of result) → Answers settings.now texts.now (code_of result) (O.bytes out.old) (O.bytes out.new) }
     ensures kind { ComesOfText (code_of result) }
     ensures faults { TellsFaults (code_of result) (O.faults out.old) (O.faults out.new) }
 {
-    let texts = [text];
-    match read(alloc, &texts) {
-        Ok(program) => answer_program(alloc, out, &program),
+    match read(alloc, texts) {
+        Ok(program) => answer_program(alloc, out, settings, &program),
         Err(ReadFault::Syntax) => refuse(out, Refusal::Syntax),
         Err(ReadFault::Memory) => Status::Memory,
     }

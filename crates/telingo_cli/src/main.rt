@@ -2,12 +2,13 @@
 #![tactic(auto)]
 
 mod answering;
-mod command;
+mod files;
 mod grounding;
 mod lines;
 mod naming;
 mod printing;
 mod reading;
+mod running;
 mod status;
 #[cfg(test)]
 mod tests;

@@ -1,7 +1,7 @@
 ghost use Rattle.std.specs.Prelude.{◌≡◌, true, false, ℕ, ◌+◌, ◌<◌, ◌≤◌, List, ◌++◌, length, take, drop, IfOk, IfSome, OnOk, OnErr, IfErr, vec_len};
 ghost use Rattle.std.specs.Result.{IsErrOf};
 ghost use Rattle.tel_base.specs.Counts.{Rose, HasCause};
-ghost use Rattle.telingo_cli.specs.Reading.{IsFrontOf, IsTold, HasLargeText, largest_text};
+ghost use Rattle.telingo_cli.specs.Reading.{IsFrontOf, IsTold, HasMore};
 
 use std::alloc::{AllocError, Global};
 use tel_base::{Source, Text};
@@ -9,16 +9,13 @@ use tel_base::{Source, Text};
 /// Why a text wasn't read.
 #[derive(Clone, Copy, Debug, PartialEq, Eq)]
 pub enum TextFault {
-    /// It has more bytes than a text may have.
+    /// It has more bytes than it may have.
     Large,
     /// A read failed.
     Read,
     /// There was no memory for it.
     Memory,
 }
-
-/// The most bytes that a text may have.
-pub const LARGEST_TEXT: usize = 1048576;
 
 /// How many bytes are asked for at a time.
 const PIECE: usize = 32768;
@@ -55,6 +52,13 @@ fn read_piece<S: Source>(
     }
 }
 
+/// A buffer for the pieces.
+pub fn piece_buffer(alloc: Global) -> Result<Vec<u8>, AllocError>
+    ensures { IfOk result (λ buffer. 0 < vec_len buffer) }
+{
+    buffer_of(alloc, PIECE)
+}
+
 /// A buffer of this many bytes.
 fn buffer_of(alloc: Global, len: usize) -> Result<Vec<u8>, AllocError>
     ensures { IfOk result (λ buffer. vec_len buffer ≡ len) }
@@ -62,23 +66,27 @@ fn buffer_of(alloc: Global, len: usize) -> Result<Vec<u8>, AllocError>
     vec![in alloc; 0; len]
 }
 
-/// Reads the whole text of `name`, which may have at most `LARGEST_TEXT` bytes.
-pub fn read_text<S: Source>(alloc: Global, texts: &mut S, name: &str) -> Result<Text, TextFault>
+/// Reads the whole text of `name`, which may have at most `most` bytes, in pieces of the size of
+/// `piece`.
+pub fn read_text<S: Source>(
+    alloc: Global,
+    texts: &mut S,
+    name: &str,
+    most: usize,
+    piece: &mut [u8],
+) -> Result<Text, TextFault>
+    requires { 0 < length piece.old }
     ensures whole { IfOk result (λ text. IsTold (S.text texts.old name.now) text) }
-    ensures small { IfOk result (λ text. length text ≤ largest_text) }
-    ensures large { result ≡ Err TextFault.Large → HasLargeText (S.text texts.old name.now) }
+    ensures small { IfOk result (λ text. length text ≤ most) }
+    ensures large { result ≡ Err TextFault.Large → HasMore (S.text texts.old name.now) most }
     ensures read_only { result ≡ Err TextFault.Read → Rose (S.faults texts.old) (S.faults texts.new) }
     ensures read_named { result ≡ Err TextFault.Read → IfSome (S.failed texts.new) (λ word. word ≡ name.now) }
     ensures stands { (result ≡ Err TextFault.Read → ⊥) → S.faults texts.new ≡ S.faults texts.old }
     ensures texts { (word : List ℕ) → S.text texts.new word ≡ S.text texts.old word }
 {
-    let mut piece = match buffer_of(alloc, PIECE) {
-        Err(_) => return Err(TextFault::Memory),
-        Ok(piece) => piece,
-    };
     let mut bytes = Vec::new(alloc);
-    'reading: while bytes.len() <= LARGEST_TEXT {
-        match read_piece(texts, name, &mut bytes, &mut piece) {
+    'reading: while bytes.len() <= most {
+        match read_piece(texts, name, &mut bytes, piece) {
             Err(fault) => return Err(fault),
             Ok(false) => return Ok(Text::from_vec(bytes)),
             Ok(true) => {}

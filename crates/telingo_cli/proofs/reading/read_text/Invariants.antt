@@ -1,4 +1,4 @@
-use Rattle.std.proofs.Common.{◌≡◌, ℕ, ◌-◌, ◌<◌, List, vec_len}
+use Rattle.std.proofs.Common.{◌≡◌, ℕ, ◌+◌, ◌-◌, ◌<◌, List, length, vec_len}
 use Rattle.telingo_cli.specs.Reading.{IsFrontOf}
 use Rattle.telingo_cli.proofs.reading.read_text.Given as goal
 
@@ -7,8 +7,8 @@ invariant-reading g l = record {
   front : IsFrontOf (g.S.Source.text l.initial.texts l.name) l.bytes.items;
   stands : g.S.Source.faults l.texts ≡ g.S.Source.faults l.initial.texts;
   texts : (word : List ℕ) → g.S.Source.text l.texts word ≡ g.S.Source.text l.initial.texts word;
-  room : 0 < vec_len l.piece;
+  room : 0 < length l.piece;
 }
 
 abbrev pub decreases-reading : goal.decreases-reading
-decreases-reading g l = 1048577 - vec_len l.bytes
+decreases-reading g l = l.most + 1 - vec_len l.bytes
