@@ -1,4 +1,0 @@
-pub mod Command
-pub mod Laws
-pub mod Run
-pub mod Words
