@@ -1,0 +1,9 @@
+//! Prints traces to a sink, in the lines of the output. Nothing here takes memory: the pieces of a
+//! line wait in a small buffer on the stack, and go out together.
+#![tactic(auto)]
+
+mod lines;
+mod pieces;
+mod printing;
+
+pub use printing::{print_end, print_length, print_trace};
