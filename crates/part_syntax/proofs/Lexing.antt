@@ -1,17 +1,16 @@
 -- The tokens of bytes: reading gives them exactly where the bytes spell them.
-use Rattle.std.proofs.Common.{◌≡◌, ℕ, suc, ◌+◌, ◌<◌, ◌≤◌, Bool, true, false, not, cond, eqb, ◌&&◌, List, [], ◌∷◌, ◌++◌, length, take, drop, Option, Some, None, refl, sym, ap, subst, ◌∙◌, append_assoc, arith, inl, inr}
+use Rattle.std.proofs.Common.{◌≡◌, ℕ, suc, ◌+◌, ◌<◌, ◌≤◌, Bool, true, false, not, cond, eqb, ◌&&◌, List, [], ◌∷◌, ◌++◌, length, get_or, take, drop, Option, Some, None, refl, sym, ap, subst, ◌∙◌, append_assoc, arith, inl, inr}
 use Rattle.std.specs.Prelude.{codes, ◌⊎◌}
 use Rattle.std.specs.List.{list_all, prefix_len}
 use Rattle.std.specs.Str.{bytes_eq}
-use Rattle.std.proofs.lemmas.List.{append-nil, take-append-drop, length-append, length-take, nil_from_length, take_at}
-use Rattle.std.proofs.lemmas.List.Sums.{prefix_len-le-length}
-use Rattle.std.proofs.lemmas.Bool.{and_parts, and_from, or_cases, cases_Bool, false≢true, eqb-true, ne_eqb, not-true, both_ways}
+use Rattle.std.proofs.lemmas.List.{append-nil, take-append-drop, length-append, length-take, nil_from_length}
+use Rattle.std.proofs.lemmas.Bool.{and_parts, and_from, or_cases, cases_Bool, false≢true, eqb-true, not-true}
 use Rattle.std.specs.Cmp.Lexicographic.{pointwise}
 use Rattle.std.proofs.lemmas.Slice.Eq.{bytes_eq-Decides}
 use Rattle.std.proofs.lemmas.Option.{same_Some}
-use Rattle.part_syntax.specs.Tokens.{Token, Name, Not, If, Comma, Stop, is_white, is_name_byte, is_name, is_between, spelling, IsToken, begins, IsLongest, Spells}
-use Rattle.part_syntax.specs.Reading.{with_first, with_next, word_token, close, Begun, Word, Colon, lex_in, lex_from, lex}
-use Rattle.part_syntax.proofs.Fronts.{with_first_some, with_next_some, passed, all-append, all-prefix}
+use Rattle.part_syntax.specs.Tokens.{Token, Name, Not, Program, If, Comma, Stop, Open, Close, Prime, is_white, is_name_byte, is_name, is_between, spelling, IsToken, begins, IsLongest, Spells}
+use Rattle.part_syntax.specs.Reading.{with_first, with_next, word_token, word_len, mark_of, close, Begun, Word, Colon, lex_in, lex_from, lex}
+use Rattle.part_syntax.proofs.Fronts.{with_first_some, with_next_some, passed, chosen, all-prefix}
 
 -- ---- white space
 
@@ -90,13 +89,30 @@ unfolding close
 close-none [] read some is = absurd (omega arith)
 close-none (byte ∷ word) read some is = ap (λ (o : Option Token). with_next o read) is
 
--- the word at the front, and then the rest
-lex-front : (bytes : List ℕ) → lex bytes ≡ close (take (prefix_len is_name_byte bytes) bytes) (lex (drop (prefix_len is_name_byte bytes) bytes))
-lex-front bytes =
+-- the letters, digits and `_` at the front go on with a word, and then comes the rest
+lex-letters : (word bytes : List ℕ) → lex_from word bytes ≡ close (word ++ take (prefix_len is_name_byte bytes) bytes) (lex (drop (prefix_len is_name_byte bytes) bytes))
+lex-letters word bytes =
     let n = prefix_len is_name_byte bytes in
-    ap lex (sym (take-append-drop n bytes)) ∙ lex-word [] (take n bytes) (drop n bytes) (all-prefix is_name_byte bytes) (begins-drop_prefix is_name_byte bytes)
+    ap (lex_from word) (sym (take-append-drop n bytes)) ∙ lex-word word (take n bytes) (drop n bytes) (all-prefix is_name_byte bytes) (begins-drop_prefix is_name_byte bytes)
 
-pub lex_word : (bytes : List ℕ) (n : ℕ) (token : Token) → n ≡ prefix_len is_name_byte bytes → word_token (take n bytes) ≡ Some token → lex bytes ≡ with_first token (lex (drop n bytes))
+-- `#` begins a word
+lex-hash : (bytes : List ℕ) → lex (35 ∷ bytes) ≡ lex_from (35 ∷ []) bytes
+unfolding lex_in close
+lex-hash bytes = refl
+
+-- the word at the front, and then the rest
+lex-front : (bytes : List ℕ) → lex bytes ≡ close (take (word_len bytes) bytes) (lex (drop (word_len bytes) bytes))
+lex-front [] = lex-letters [] []
+lex-front (byte ∷ bytes) =
+    elim (cases_Bool (eqb byte 35)) [
+      | inl hash ↦
+          let n : prefix_len is_name_byte bytes + 1 ≡ suc (prefix_len is_name_byte bytes) = omega arith in
+          let at_hash : lex (byte ∷ bytes) ≡ lex_from (byte ∷ []) bytes = subst (λ (b : ℕ). lex (b ∷ bytes) ≡ lex_from (b ∷ []) bytes) (sym (eqb-true byte 35 hash)) (lex-hash bytes) in
+          rw (hash, n) (at_hash ∙ lex-letters (byte ∷ []) bytes)
+      | inr other ↦ rw other (lex-letters [] (byte ∷ bytes))
+    ]
+
+pub lex_word : (bytes : List ℕ) (n : ℕ) (token : Token) → n ≡ word_len bytes → word_token (take n bytes) ≡ Some token → lex bytes ≡ with_first token (lex (drop n bytes))
 lex_word bytes n token n-is is =
     let e : lex bytes ≡ close (take n bytes) (lex (drop n bytes)) = rw n-is (lex-front bytes) in
     e ∙ close-word (take n bytes) (lex (drop n bytes)) token is
@@ -104,12 +120,12 @@ lex_word bytes n token n-is is =
 some_front : (bytes : List ℕ) (n : ℕ) → n ≤ length bytes → 0 < n → 0 < length (take n bytes)
 some_front bytes n within some = simp length-take (omega arith)
 
-pub lex_no_word : (bytes : List ℕ) (n : ℕ) → n ≡ prefix_len is_name_byte bytes → 0 < n → word_token (take n bytes) ≡ None → lex bytes ≡ None
-lex_no_word bytes n n-is some is =
+pub lex_no_word : (bytes : List ℕ) (n : ℕ) → n ≡ word_len bytes → n ≤ length bytes → 0 < n → word_token (take n bytes) ≡ None → lex bytes ≡ None
+lex_no_word bytes n n-is within some is =
     let e : lex bytes ≡ close (take n bytes) (lex (drop n bytes)) = rw n-is (lex-front bytes) in
-    e ∙ close-none (take n bytes) (lex (drop n bytes)) (some_front bytes n (omega (arith, prefix_len-le-length is_name_byte bytes)) some) is
+    e ∙ close-none (take n bytes) (lex (drop n bytes)) (some_front bytes n within some) is
 
--- ---- the end, a stop, and what begins no token
+-- ---- the end, a mark, and what begins no token
 
 lex-nil : lex [] ≡ Some []
 unfolding lex_in close
@@ -118,41 +134,40 @@ lex-nil = refl
 pub lex_nil : (bytes : List ℕ) → length bytes ≡ 0 → lex bytes ≡ Some []
 lex_nil bytes none = rw (nil_from_length bytes none) lex-nil
 
--- the tokens that are no words
-abbrev pub is_mark : Token → Bool
-is_mark (Name name) = false
-is_mark Not = false
-is_mark If = true
-is_mark Comma = true
-is_mark Stop = true
+-- the bytes do not begin with `:-`
+abbrev pub IsNoIf : List ℕ → Type 0
+IsNoIf bytes = pointwise eqb (take 2 bytes) (spelling If) ≡ false
 
-lex-mark : (token : Token) (rest : List ℕ) → is_mark token ≡ true → lex (spelling token ++ rest) ≡ with_first token (lex rest)
+lex-if : (rest : List ℕ) → lex (spelling If ++ rest) ≡ with_first If (lex rest)
 unfolding lex_in close
-lex-mark (Name name) rest mark = absurd cc
-lex-mark Not rest mark = absurd cc
-lex-mark If rest mark = refl
-lex-mark Comma rest mark = refl
-lex-mark Stop rest mark = refl
+lex-if rest = refl
 
--- the bytes do not begin with the spelling
-abbrev pub IsWithout : Token → List ℕ → Type 0
-IsWithout token bytes = pointwise eqb (take (length (spelling token)) bytes) (spelling token) ≡ false
-
--- what a test for the spelling of a mark gives
-pub lex_mark : (token : Token) (bytes rest prefix : List ℕ) → is_mark token ≡ true → prefix ≡ spelling token → pointwise eqb (take (length prefix) bytes) prefix ≡ true → rest ≡ drop (length prefix) bytes → lex bytes ≡ with_first token (lex rest)
-lex_mark token bytes rest prefix mark prefix-is same rest-is =
+-- what a test for `:-` gives
+pub lex_if : (bytes rest prefix : List ℕ) → prefix ≡ spelling If → pointwise eqb (take (length prefix) bytes) prefix ≡ true → rest ≡ drop (length prefix) bytes → lex bytes ≡ with_first If (lex rest)
+lex_if bytes rest prefix prefix-is same rest-is =
     let n = length prefix in
-    let front : take n bytes ≡ spelling token = (bytes_eq-Decides (take n bytes) prefix).0 same ∙ prefix-is in
-    let whole : bytes ≡ spelling token ++ rest = sym (take-append-drop n bytes) ∙ ap (λ (t : List ℕ). t ++ drop n bytes) front ∙ ap (λ (t : List ℕ). spelling token ++ t) (sym rest-is) in
-    ap lex whole ∙ lex-mark token rest mark
+    let front : take n bytes ≡ spelling If = (bytes_eq-Decides (take n bytes) prefix).0 same ∙ prefix-is in
+    let whole : bytes ≡ spelling If ++ rest = sym (take-append-drop n bytes) ∙ ap (λ (t : List ℕ). t ++ drop n bytes) front ∙ ap (λ (t : List ℕ). spelling If ++ t) (sym rest-is) in
+    ap lex whole ∙ lex-if rest
 
-pub lex_without : (token : Token) (bytes prefix : List ℕ) → prefix ≡ spelling token → pointwise eqb (take (length prefix) bytes) prefix ≡ false → IsWithout token bytes
-lex_without token bytes prefix prefix-is differs = subst (λ (p : List ℕ). pointwise eqb (take (length p) bytes) p ≡ false) prefix-is differs
+pub no_if : (bytes prefix : List ℕ) → prefix ≡ spelling If → pointwise eqb (take (length prefix) bytes) prefix ≡ false → IsNoIf bytes
+no_if bytes prefix prefix-is differs = subst (λ (p : List ℕ). pointwise eqb (take (length p) bytes) p ≡ false) prefix-is differs
 
-no_mark : (token : Token) (rest : List ℕ) → pointwise eqb (take (length (spelling token)) (spelling token ++ rest)) (spelling token) ≡ false → ⊥
-no_mark token rest differs =
-    let same = (bytes_eq-Decides (take (length (spelling token)) (spelling token ++ rest)) (spelling token)).1 (take_at (spelling token) rest (length (spelling token)) refl) in
-    both_ways _ differs same
+-- what a byte that is none of a name gives, where read is what the rest gives, hashed what it gives after `#`, and joined what it gives after `:`
+byte_reads : ℕ → Option (List Token) → Option (List Token) → Option (List Token) → Option (List Token)
+byte_reads byte read hashed joined =
+    cond (is_white byte) read (cond (eqb byte 35) hashed (cond (eqb byte 58) joined (with_next (mark_of byte) read)))
+
+other_colon : (bytes : List ℕ) → IsNoIf (58 ∷ bytes) → lex_in Colon bytes ≡ None
+unfolding lex_in
+other_colon [] differs = refl
+other_colon (byte ∷ bytes) differs =
+    elim (cases_Bool (eqb byte 45)) [
+      | inl dash ↦
+          let at_if : pointwise eqb (take 2 (58 ∷ 45 ∷ bytes)) (spelling If) ≡ false = subst (λ (b : ℕ). IsNoIf (58 ∷ b ∷ bytes)) (eqb-true byte 45 dash) differs in
+          absurd cc
+      | inr other ↦ rw other refl
+    ]
 
 no_prefix : (test : ℕ → Bool) (byte : ℕ) (bytes : List ℕ) → prefix_len test (byte ∷ bytes) ≡ 0 → test byte ≡ false
 no_prefix test byte bytes none =
@@ -163,37 +178,36 @@ no_prefix test byte bytes none =
       | inr stops ↦ stops
     ]
 
--- what a byte that is none of a name gives, where read is what the rest gives, and joined what it gives after `:`
-byte_reads : ℕ → Option (List Token) → Option (List Token) → Option (List Token)
-byte_reads byte read joined =
-    cond (is_white byte) read (cond (eqb byte 46) (with_first Stop read) (cond (eqb byte 44) (with_first Comma read) (cond (eqb byte 58) joined None)))
-
-other_colon : (bytes : List ℕ) → IsWithout If (58 ∷ bytes) → lex_in Colon bytes ≡ None
-unfolding lex_in
-other_colon [] differs = refl
-other_colon (byte ∷ bytes) differs =
-    elim (cases_Bool (eqb byte 45)) [
-      | inl dash ↦ absurd (no_mark If bytes (subst (λ (b : ℕ). IsWithout If (58 ∷ b ∷ bytes)) (eqb-true byte 45 dash) differs))
-      | inr other ↦ rw other refl
+-- where no word begins, the first byte is no `#` and none of a name
+no_word : (byte : ℕ) (bytes : List ℕ) → word_len (byte ∷ bytes) ≡ 0 → (eqb byte 35 ≡ false) × (is_name_byte byte ≡ false)
+no_word byte bytes none =
+    elim (cases_Bool (eqb byte 35)) [
+      | inl hash ↦
+          let n : word_len (byte ∷ bytes) ≡ prefix_len is_name_byte bytes + 1 = rw hash refl in
+          absurd (omega arith)
+      | inr other ↦
+          let n : word_len (byte ∷ bytes) ≡ prefix_len is_name_byte (byte ∷ bytes) = rw other refl in
+          (other, no_prefix is_name_byte byte bytes (sym n ∙ none))
     ]
 
-other_byte : (byte : ℕ) (bytes : List ℕ) → is_white byte ≡ false → IsWithout Stop (byte ∷ bytes) → IsWithout Comma (byte ∷ bytes) → IsWithout If (byte ∷ bytes) → byte_reads byte (lex bytes) (lex_in Colon bytes) ≡ None
+marked : (byte : ℕ) (bytes : List ℕ) → is_white byte ≡ false → eqb byte 35 ≡ false → IsNoIf (byte ∷ bytes) → byte_reads byte (lex bytes) (lex_from (35 ∷ []) bytes) (lex_in Colon bytes) ≡ with_next (mark_of byte) (lex bytes)
 unfolding byte_reads
-other_byte byte bytes visible stop comma arrow =
-    let ne_stop : eqb byte 46 ≡ false = ne_eqb byte 46 (λ e. no_mark Stop bytes (subst (λ (b : ℕ). IsWithout Stop (b ∷ bytes)) e stop)) in
-    let ne_comma : eqb byte 44 ≡ false = ne_eqb byte 44 (λ e. no_mark Comma bytes (subst (λ (b : ℕ). IsWithout Comma (b ∷ bytes)) e comma)) in
+marked byte bytes visible no_hash differs =
     elim (cases_Bool (eqb byte 58)) [
       | inl colon ↦
-          let none : lex_in Colon bytes ≡ None = other_colon bytes (subst (λ (b : ℕ). IsWithout If (b ∷ bytes)) (eqb-true byte 58 colon) arrow) in
-          rw (visible, ne_stop, ne_comma, colon) none
-      | inr other ↦ rw (visible, ne_stop, ne_comma, other) refl
+          let none : lex_in Colon bytes ≡ None = other_colon bytes (subst (λ (b : ℕ). IsNoIf (b ∷ bytes)) (eqb-true byte 58 colon) differs) in
+          let no_mark : mark_of byte ≡ None = ap mark_of (eqb-true byte 58 colon) in
+          rw (visible, no_hash, colon, none, no_mark) refl
+      | inr other ↦ rw (visible, no_hash, other) refl
     ]
 
-pub lex_other : (bytes : List ℕ) → 0 < length bytes → begins is_white bytes ≡ false → prefix_len is_name_byte bytes ≡ 0 → IsWithout Stop bytes → IsWithout Comma bytes → IsWithout If bytes → lex bytes ≡ None
+-- the byte at the front, where no word and no `:-` stands there
+pub lex_byte : (bytes : List ℕ) → 0 < length bytes → begins is_white bytes ≡ false → word_len bytes ≡ 0 → IsNoIf bytes → lex bytes ≡ with_next (mark_of (get_or bytes 0 0)) (lex (drop 1 bytes))
 unfolding lex_in close byte_reads
-lex_other [] some visible none stop comma arrow = absurd (omega arith)
-lex_other (byte ∷ bytes) some visible none stop comma arrow =
-    rw (no_prefix is_name_byte byte bytes none) (other_byte byte bytes visible stop comma arrow)
+lex_byte [] some visible none differs = absurd (omega arith)
+lex_byte (byte ∷ bytes) some visible none differs =
+    let p = no_word byte bytes none in
+    rw p.1 (marked byte bytes visible p.0 differs)
 
 -- ---- what is read is spelled so
 
@@ -227,18 +241,49 @@ record IsWord (word : List ℕ) (token : Token) : Type 0 where
 
 word_is : (word : List ℕ) (token : Token) → word_token word ≡ Some token → IsWord word token
 word_is word token is =
-    elim (cases_Bool (bytes_eq word (codes "not"))) [
-      | inl same ↦
-          let e : Some Not ≡ Some token = rw same at is in
-          let at_not : IsWord word Not = record { spelled = sym ((bytes_eq-Decides word (codes "not")).0 same); valid = tt; longest = λ rest ends. ap not ends } in
-          let token-is : Not ≡ token = cc in
-          subst (λ (t : Token). IsWord word t) token-is at_not
-      | inr other ↦
-          let e : cond (is_name word) (Some (Name word)) None ≡ Some token = rw other at is in
-          let p = passed (is_name word) (Some (Name word)) token e in
-          let at_name : IsWord word (Name word) = record { spelled = refl; valid = p.0; longest = λ rest ends. ap not ends } in
-          let token-is : Name word ≡ token = same_Some _ _ p.1 in
-          subst (λ (t : Token). IsWord word t) token-is at_name
+    elim (chosen (bytes_eq word (codes "not")) (Some Not) _ token is) [
+      | inl at ↦
+          let at_not : IsWord word Not = record { spelled = sym ((bytes_eq-Decides word (codes "not")).0 at.0); valid = tt; longest = λ rest ends. ap not ends } in
+          subst (λ (t : Token). IsWord word t) (same_Some _ _ at.1) at_not
+      | inr past ↦ elim (chosen (bytes_eq word (codes "#program")) (Some Program) _ token past.1) [
+        | inl at ↦
+            let at_program : IsWord word Program = record { spelled = sym ((bytes_eq-Decides word (codes "#program")).0 at.0); valid = tt; longest = λ rest ends. ap not ends } in
+            subst (λ (t : Token). IsWord word t) (same_Some _ _ at.1) at_program
+        | inr other ↦
+            let p = passed (is_name word) (Some (Name word)) token other.1 in
+            let at_name : IsWord word (Name word) = record { spelled = refl; valid = p.0; longest = λ rest ends. ap not ends } in
+            subst (λ (t : Token). IsWord word t) (same_Some _ _ p.1) at_name
+      ]
+    ]
+
+-- the token that is a byte is spelled by it
+record IsMark (byte : ℕ) (token : Token) : Type 0 where
+  spelled : spelling token ≡ byte ∷ []
+  valid : IsToken token
+  longest : (rest : List ℕ) → IsLongest token rest
+
+-- one of the marks, where the byte is the one that it is spelled by
+mark_at : (byte code : ℕ) (mark token : Token) → eqb byte code ≡ true → Some mark ≡ Some token → IsMark code mark → IsMark byte token
+mark_at byte code mark token same is mark-is =
+    let at_code : IsMark byte mark = subst (λ (b : ℕ). IsMark b mark) (sym (eqb-true byte code same)) mark-is in
+    subst (λ (t : Token). IsMark byte t) (same_Some _ _ is) at_code
+
+mark_is : (byte : ℕ) (token : Token) → mark_of byte ≡ Some token → IsMark byte token
+mark_is byte token is =
+    elim (chosen (eqb byte 46) (Some Stop) _ token is) [
+      | inl at ↦ mark_at byte 46 Stop token at.0 at.1 (record { spelled = refl; valid = tt; longest = λ rest. tt })
+      | inr past_stop ↦ elim (chosen (eqb byte 44) (Some Comma) _ token past_stop.1) [
+        | inl at ↦ mark_at byte 44 Comma token at.0 at.1 (record { spelled = refl; valid = tt; longest = λ rest. tt })
+        | inr past_comma ↦ elim (chosen (eqb byte 123) (Some Open) _ token past_comma.1) [
+          | inl at ↦ mark_at byte 123 Open token at.0 at.1 (record { spelled = refl; valid = tt; longest = λ rest. tt })
+          | inr past_open ↦ elim (chosen (eqb byte 125) (Some Close) _ token past_open.1) [
+            | inl at ↦ mark_at byte 125 Close token at.0 at.1 (record { spelled = refl; valid = tt; longest = λ rest. tt })
+            | inr past_close ↦
+                let p = passed (eqb byte 39) (Some Prime) token past_close.1 in
+                mark_at byte 39 Prime token p.0 p.1 (record { spelled = refl; valid = tt; longest = λ rest. tt })
+          ]
+        ]
+      ]
     ]
 
 close_spells : (word rest : List ℕ) (read : Option (List Token)) (tokens : List Token) → begins is_name_byte rest ≡ false → ((more : List Token) → read ≡ Some more → Spells rest more) → close word read ≡ Some tokens → Spells (word ++ rest) tokens
@@ -249,29 +294,34 @@ close_spells (byte ∷ word) rest read tokens ends spells e =
     let w = word_is (byte ∷ word) p.0 p.1 in
     subst (λ (front : List ℕ). Spells (front ++ rest) tokens) w.spelled (token_spells p.0 rest read tokens w.valid (w.longest rest ends) spells p.2)
 
-byte_spells : (byte : ℕ) (bytes : List ℕ) (read joined : Option (List Token)) (tokens : List Token) → ((more : List Token) → read ≡ Some more → Spells bytes more) → ((more : List Token) → joined ≡ Some more → Spells (58 ∷ bytes) more) → byte_reads byte read joined ≡ Some tokens → Spells (byte ∷ bytes) tokens
+mark_spells : (byte : ℕ) (bytes : List ℕ) (read : Option (List Token)) (tokens : List Token) → ((more : List Token) → read ≡ Some more → Spells bytes more) → with_next (mark_of byte) read ≡ Some tokens → Spells (byte ∷ bytes) tokens
+mark_spells byte bytes read tokens spells e =
+    let p = with_next_some (mark_of byte) read tokens e in
+    let m = mark_is byte p.0 p.1 in
+    subst (λ (front : List ℕ). Spells (front ++ bytes) tokens) m.spelled (token_spells p.0 bytes read tokens m.valid (m.longest bytes) spells p.2)
+
+byte_spells : (byte : ℕ) (bytes : List ℕ) (read hashed joined : Option (List Token)) (tokens : List Token) → ((more : List Token) → read ≡ Some more → Spells bytes more) → ((more : List Token) → hashed ≡ Some more → Spells (35 ∷ bytes) more) → ((more : List Token) → joined ≡ Some more → Spells (58 ∷ bytes) more) → byte_reads byte read hashed joined ≡ Some tokens → Spells (byte ∷ bytes) tokens
 unfolding byte_reads
-byte_spells byte bytes read joined tokens spells joins e =
+byte_spells byte bytes read hashed joined tokens spells hashes joins e =
     elim (cases_Bool (is_white byte)) [
       | inl white ↦
           let read_on : read ≡ Some tokens = rw white at e in
           white_spells byte bytes tokens white (spells tokens read_on)
       | inr visible ↦
-          let marked : cond (eqb byte 46) (with_first Stop read) (cond (eqb byte 44) (with_first Comma read) (cond (eqb byte 58) joined None)) ≡ Some tokens = rw visible at e in
-          elim (cases_Bool (eqb byte 46)) [
-            | inl stop ↦
-                let stopped : with_first Stop read ≡ Some tokens = rw stop at marked in
-                subst (λ (b : ℕ). Spells (b ∷ bytes) tokens) (sym (eqb-true byte 46 stop)) (token_spells Stop bytes read tokens tt tt spells stopped)
-            | inr no_stop ↦
-                let others : cond (eqb byte 44) (with_first Comma read) (cond (eqb byte 58) joined None) ≡ Some tokens = rw no_stop at marked in
-                elim (cases_Bool (eqb byte 44)) [
-                  | inl comma ↦
-                      let parted : with_first Comma read ≡ Some tokens = rw comma at others in
-                      subst (λ (b : ℕ). Spells (b ∷ bytes) tokens) (sym (eqb-true byte 44 comma)) (token_spells Comma bytes read tokens tt tt spells parted)
-                  | inr no_comma ↦
-                      let begun : cond (eqb byte 58) joined None ≡ Some tokens = rw no_comma at others in
-                      let p = passed (eqb byte 58) joined tokens begun in
-                      subst (λ (b : ℕ). Spells (b ∷ bytes) tokens) (sym (eqb-true byte 58 p.0)) (joins tokens p.1)
+          let past : cond (eqb byte 35) hashed (cond (eqb byte 58) joined (with_next (mark_of byte) read)) ≡ Some tokens = rw visible at e in
+          elim (cases_Bool (eqb byte 35)) [
+            | inl hash ↦
+                let begun : hashed ≡ Some tokens = rw hash at past in
+                subst (λ (b : ℕ). Spells (b ∷ bytes) tokens) (sym (eqb-true byte 35 hash)) (hashes tokens begun)
+            | inr no_hash ↦
+                let others : cond (eqb byte 58) joined (with_next (mark_of byte) read) ≡ Some tokens = rw no_hash at past in
+                elim (cases_Bool (eqb byte 58)) [
+                  | inl colon ↦
+                      let begun : joined ≡ Some tokens = rw colon at others in
+                      subst (λ (b : ℕ). Spells (b ∷ bytes) tokens) (sym (eqb-true byte 58 colon)) (joins tokens begun)
+                  | inr other ↦
+                      let one : with_next (mark_of byte) read ≡ Some tokens = rw other at others in
+                      mark_spells byte bytes read tokens spells one
                 ]
           ]
     ]
@@ -281,34 +331,30 @@ abbrev begun_bytes : Begun → List ℕ
 begun_bytes (Word word) = word
 begun_bytes Colon = 58 ∷ []
 
--- a word that was begun is of name bytes
-abbrev IsBegun : Begun → Type 0
-IsBegun (Word word) = list_all is_name_byte word ≡ true
-IsBegun Colon = Unit {0}
-
-lex_spells_in : (begun : Begun) (bytes : List ℕ) (tokens : List Token) → IsBegun begun → lex_in begun bytes ≡ Some tokens → Spells (begun_bytes begun ++ bytes) tokens
+lex_spells_in : (begun : Begun) (bytes : List ℕ) (tokens : List Token) → lex_in begun bytes ≡ Some tokens → Spells (begun_bytes begun ++ bytes) tokens
 unfolding lex_in byte_reads
-lex_spells_in (Word word) [] tokens all e =
+lex_spells_in (Word word) [] tokens e =
     close_spells word [] (Some []) tokens refl (λ more same. let none : [] ≡ more = cc in subst (λ (ts : List Token). Spells [] ts) none refl) e
-lex_spells_in Colon [] tokens all e = absurd cc
-lex_spells_in (Word word) (byte ∷ bytes) tokens all e =
+lex_spells_in Colon [] tokens e = absurd cc
+lex_spells_in (Word word) (byte ∷ bytes) tokens e =
     elim (cases_Bool (is_name_byte byte)) [
       | inl named ↦
           let read_on : lex_in (Word (word ++ byte ∷ [])) bytes ≡ Some tokens = rw named at e in
-          let longer : list_all is_name_byte (word ++ byte ∷ []) ≡ true = all-append is_name_byte word (byte ∷ []) all (and_from (is_name_byte byte) true named refl) in
-          subst (λ (bs : List ℕ). Spells bs tokens) (append_assoc word (byte ∷ []) bytes) (lex_spells_in (Word (word ++ byte ∷ [])) bytes tokens longer read_on)
+          subst (λ (bs : List ℕ). Spells bs tokens) (append_assoc word (byte ∷ []) bytes) (lex_spells_in (Word (word ++ byte ∷ [])) bytes tokens read_on)
       | inr ends ↦
-          let closed : close word (byte_reads byte (lex bytes) (lex_in Colon bytes)) ≡ Some tokens = rw ends at e in
-          close_spells word (byte ∷ bytes) (byte_reads byte (lex bytes) (lex_in Colon bytes)) tokens ends
-          (λ more same. byte_spells byte bytes (lex bytes) (lex_in Colon bytes) more (λ others read. lex_spells_in (Word []) bytes others refl read) (λ others read. lex_spells_in Colon bytes others tt read) same) closed
+          let reads = byte_reads byte (lex bytes) (lex_from (35 ∷ []) bytes) (lex_in Colon bytes) in
+          let closed : close word reads ≡ Some tokens = rw ends at e in
+          close_spells word (byte ∷ bytes) reads tokens ends
+          (λ more same. byte_spells byte bytes (lex bytes) (lex_from (35 ∷ []) bytes) (lex_in Colon bytes) more
+          (λ others read. lex_spells_in (Word []) bytes others read) (λ others read. lex_spells_in (Word (35 ∷ [])) bytes others read) (λ others read. lex_spells_in Colon bytes others read) same) closed
     ]
-lex_spells_in Colon (byte ∷ bytes) tokens all e =
+lex_spells_in Colon (byte ∷ bytes) tokens e =
     let p = passed (eqb byte 45) (with_first If (lex bytes)) tokens e in
     subst (λ (b : ℕ). Spells (58 ∷ b ∷ bytes) tokens) (sym (eqb-true byte 45 p.0))
-    (token_spells If bytes (lex bytes) tokens tt tt (λ others read. lex_spells_in (Word []) bytes others refl read) p.1)
+    (token_spells If bytes (lex bytes) tokens tt tt (λ others read. lex_spells_in (Word []) bytes others read) p.1)
 
 pub lex_spells : (bytes : List ℕ) (tokens : List Token) → lex bytes ≡ Some tokens → Spells bytes tokens
-lex_spells bytes tokens e = lex_spells_in (Word []) bytes tokens refl e
+lex_spells bytes tokens e = lex_spells_in (Word []) bytes tokens e
 
 -- ---- what is spelled so is read
 
@@ -320,25 +366,53 @@ name_bytes (byte ∷ name) named =
     let q = and_parts (is_between 97 122 byte) (list_all is_name_byte name) p.0 in
     and_from (is_name_byte byte) (list_all is_name_byte name) (rw q.0 refl) q.1
 
-second_of : (first second : Bool) (a b c : Option Token) → first ≡ false → second ≡ true → cond first a (cond second b c) ≡ b
-second_of first second a b c e f = rw (e, f) refl
+-- a name is no `#program`
+name_no_hash : (byte : ℕ) (name : List ℕ) → is_between 97 122 byte ≡ true → bytes_eq (byte ∷ name) (codes "#program") ≡ false
+name_no_hash byte name lower =
+    elim (cases_Bool (bytes_eq (byte ∷ name) (codes "#program"))) [
+      | inl same ↦
+          let whole : byte ∷ name ≡ codes "#program" = (bytes_eq-Decides (byte ∷ name) (codes "#program")).0 same in
+          let first : byte ≡ 35 = cc in
+          absurd (false≢true (ap (is_between 97 122) (sym first) ∙ lower))
+      | inr other ↦ other
+    ]
+
+third_of : (first second third : Bool) (a b c d : Option Token) → first ≡ false → second ≡ false → third ≡ true → cond first a (cond second b (cond third c d)) ≡ c
+third_of first second third a b c d e f g = rw (e, f, g) refl
 
 word_token-name : (name : List ℕ) → is_name name ≡ true → word_token name ≡ Some (Name name)
 word_token-name [] named = absurd (false≢true named)
 word_token-name (byte ∷ name) named =
     let p = and_parts (is_between 97 122 byte && list_all is_name_byte name) (not (bytes_eq (byte ∷ name) (codes "not"))) named in
-    second_of (bytes_eq (byte ∷ name) (codes "not")) (is_name (byte ∷ name)) (Some Not) (Some (Name (byte ∷ name))) None (not-true (bytes_eq (byte ∷ name) (codes "not")) p.1) named
+    let q = and_parts (is_between 97 122 byte) (list_all is_name_byte name) p.0 in
+    third_of (bytes_eq (byte ∷ name) (codes "not")) (bytes_eq (byte ∷ name) (codes "#program")) (is_name (byte ∷ name)) (Some Not) (Some Program) (Some (Name (byte ∷ name))) None
+    (not-true (bytes_eq (byte ∷ name) (codes "not")) p.1) (name_no_hash byte name q.0) named
 
 next_word : (word rest : List ℕ) (token : Token) → list_all is_name_byte word ≡ true → word_token word ≡ Some token → begins is_name_byte rest ≡ false → lex (word ++ rest) ≡ with_first token (lex rest)
 next_word word rest token all is ends = lex-word [] word rest all ends ∙ close-word word (lex rest) token is
+
+next_program : (rest : List ℕ) → begins is_name_byte rest ≡ false → lex (spelling Program ++ rest) ≡ with_first Program (lex rest)
+next_program rest ends =
+    lex-hash (codes "program" ++ rest) ∙ lex-word (35 ∷ []) (codes "program") rest refl ends ∙ close-word (spelling Program) (lex rest) Program refl
+
+-- a byte that is a mark
+next_mark : (token : Token) (byte : ℕ) (rest : List ℕ) → mark_of byte ≡ Some token → is_name_byte byte ≡ false → is_white byte ≡ false → eqb byte 35 ≡ false → eqb byte 58 ≡ false → lex (byte ∷ rest) ≡ with_first token (lex rest)
+unfolding lex_in close
+next_mark token byte rest is unnamed visible no_hash no_colon =
+    let read : lex (byte ∷ rest) ≡ with_next (mark_of byte) (lex rest) = rw (unnamed, visible, no_hash, no_colon) refl in
+    read ∙ ap (λ (o : Option Token). with_next o (lex rest)) is
 
 next_lex : (token : Token) (rest : List ℕ) → IsToken token → IsLongest token rest → lex (spelling token ++ rest) ≡ with_first token (lex rest)
 next_lex (Name name) rest valid longest =
     next_word name rest (Name name) (name_bytes name valid) (word_token-name name valid) (not-true (begins is_name_byte rest) longest)
 next_lex Not rest valid longest = next_word (codes "not") rest Not refl refl (not-true (begins is_name_byte rest) longest)
-next_lex If rest valid longest = lex-mark If rest refl
-next_lex Comma rest valid longest = lex-mark Comma rest refl
-next_lex Stop rest valid longest = lex-mark Stop rest refl
+next_lex Program rest valid longest = next_program rest (not-true (begins is_name_byte rest) longest)
+next_lex If rest valid longest = lex-if rest
+next_lex Comma rest valid longest = next_mark Comma 44 rest refl refl refl refl refl
+next_lex Stop rest valid longest = next_mark Stop 46 rest refl refl refl refl refl
+next_lex Open rest valid longest = next_mark Open 123 rest refl refl refl refl refl
+next_lex Close rest valid longest = next_mark Close 125 rest refl refl refl refl refl
+next_lex Prime rest valid longest = next_mark Prime 39 rest refl refl refl refl refl
 
 pub spells_lex : (bytes : List ℕ) (tokens : List Token) → Spells bytes tokens → lex bytes ≡ Some tokens
 unfolding lex_in close
@@ -354,9 +428,13 @@ some_spelling : (token : Token) → IsToken token → 0 < length (spelling token
 some_spelling (Name []) valid = absurd (false≢true valid)
 some_spelling (Name (byte ∷ name)) valid = omega arith
 some_spelling Not valid = omega arith
+some_spelling Program valid = omega arith
 some_spelling If valid = omega arith
 some_spelling Comma valid = omega arith
 some_spelling Stop valid = omega arith
+some_spelling Open valid = omega arith
+some_spelling Close valid = omega arith
+some_spelling Prime valid = omega arith
 
 pub length-spells : (bytes : List ℕ) (tokens : List Token) → Spells bytes tokens → length tokens ≤ length bytes
 length-spells bytes [] spells = omega arith

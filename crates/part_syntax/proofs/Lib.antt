@@ -1,5 +1,6 @@
 pub mod Fronts
 pub mod Lexing
-pub mod OneStatement
+pub mod Literals
+pub mod OneItem
 pub mod Parsing
 pub mod Whole

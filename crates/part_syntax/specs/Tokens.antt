@@ -6,9 +6,13 @@ use Rattle.std.specs.Str.{bytes_eq}
 pub data Token : Type 0 where
   Name : List ℕ → Token
   Not : Token
+  Program : Token
   If : Token
   Comma : Token
   Stop : Token
+  Open : Token
+  Close : Token
+  Prime : Token
 
 -- a space, a tab, a carriage return or a line feed
 abbrev pub is_white : ℕ → Bool
@@ -29,17 +33,18 @@ is_name (first ∷ more) = is_between 97 122 first && list_all is_name_byte more
 abbrev pub spelling : Token → List ℕ
 spelling (Name name) = name
 spelling Not = codes "not"
+spelling Program = codes "#program"
 spelling If = codes ":-"
 spelling Comma = codes ","
 spelling Stop = codes "."
+spelling Open = codes "{"
+spelling Close = codes "}"
+spelling Prime = codes "'"
 
 -- the bytes of a name token are a name
 abbrev pub IsToken : Token → Type 0
 IsToken (Name name) = IsTrue (is_name name)
-IsToken Not = Unit {0}
-IsToken If = Unit {0}
-IsToken Comma = Unit {0}
-IsToken Stop = Unit {0}
+IsToken token = Unit {0}
 
 -- the bytes begin with one that passes
 abbrev pub begins : (ℕ → Bool) → List ℕ → Bool
@@ -50,9 +55,8 @@ begins test (first ∷ more) = test first
 abbrev pub IsLongest : Token → List ℕ → Type 0
 IsLongest (Name name) rest = IsTrue (not (begins is_name_byte rest))
 IsLongest Not rest = IsTrue (not (begins is_name_byte rest))
-IsLongest If rest = Unit {0}
-IsLongest Comma rest = Unit {0}
-IsLongest Stop rest = Unit {0}
+IsLongest Program rest = IsTrue (not (begins is_name_byte rest))
+IsLongest token rest = Unit {0}
 
 abbrev pub IsBlank : List ℕ → Type 0
 IsBlank bytes = IsTrue (list_all is_white bytes)

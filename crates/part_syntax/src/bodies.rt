@@ -1,6 +1,5 @@
 ghost use Rattle.std.specs.Prelude.{◌≡◌, ◌≤◌, Some, None, length, drop, MatchOption, IfSome, IfOk, IfErr};
-ghost use Rattle.part_syntax.specs.Grammar.{plain};
-ghost use Rattle.part_syntax.specs.Reading.{tokens_of, with_first, Start, Ended, literals_in, body_of};
+ghost use Rattle.part_syntax.specs.Reading.{tokens_of, with_first, plain, Start, Ended, literals_in, body_of};
 
 use crate::fault::ReadFault;
 use crate::lexer::Lexeme;
@@ -9,33 +8,65 @@ use std::alloc::Global;
 use tel_base::Text;
 use tel_rule::PlainLiteral;
 
-/// The literal of this name and sign. No error but want of memory.
-fn plain(alloc: Global, positive: bool, name: &[u8]) -> Result<PlainLiteral, ReadFault>
-    ensures ok { IfOk result (λ literal. literal ≡ plain positive name.now) }
+/// A literal in a list of tokens.
+#[derive(Clone, Copy)]
+struct Found<'a> {
+    positive: bool,
+    before: bool,
+    name: &'a [u8],
+    /// How many tokens it has.
+    count: usize,
+}
+
+/// The literal that was found. No error but want of memory.
+fn literal(alloc: Global, found: &Found) -> Result<PlainLiteral, ReadFault>
+    ensures ok { IfOk result (λ literal. literal ≡ plain found.now.positive found.now.before found.now.name.now) }
     ensures memory { IfErr result (λ fault. fault ≡ ReadFault.Memory) }
 {
-    let Ok(name) = Text::from_slice(alloc, name) else {
+    let Ok(name) = Text::from_slice(alloc, found.name) else {
         return Err(ReadFault::Memory);
     };
     Ok(PlainLiteral {
-        positive,
-        before: false,
+        positive: found.positive,
+        before: found.before,
         name,
     })
 }
 
 #[tactic(auto, unfolding(crate::specs::Reading::literals_in))]
-/// The literal at the front, by its sign and its name, and how many tokens it has.
-fn literal_at<'t>(lexemes: &[Lexeme<'t>]) -> Option<(bool, &'t [u8], usize)>
+/// The literal at the front.
+fn literal_at<'a>(lexemes: &[Lexeme<'a>]) -> Option<Found<'a>>
     ensures literal { MatchOption result (literals_in Start (tokens_of lexemes.now) ≡ None)
         (λ found. literals_in Start (tokens_of lexemes.now)
-        ≡ with_first (plain found.0 found.1.now) (literals_in Ended (tokens_of (drop found.2 lexemes.now)))) }
-    ensures within { IfSome result (λ found. found.2 ≤ length lexemes.now) }
-    ensures short { IfSome result (λ found. found.2 ≤ 2) }
+        ≡ with_first (plain found.positive found.before found.name.now) (literals_in Ended (tokens_of (drop found.count lexemes.now)))) }
+    ensures within { IfSome result (λ found. found.count ≤ length lexemes.now) }
+    ensures short { IfSome result (λ found. found.count ≤ 3) }
 {
     match lexemes {
-        [Lexeme::Name(name), ..] => Some((true, name, 1)),
-        [Lexeme::Not, Lexeme::Name(name), ..] => Some((false, name, 2)),
+        [Lexeme::Name(name), ..] => Some(Found {
+            positive: true,
+            before: false,
+            name,
+            count: 1,
+        }),
+        [Lexeme::Prime, Lexeme::Name(name), ..] => Some(Found {
+            positive: true,
+            before: true,
+            name,
+            count: 2,
+        }),
+        [Lexeme::Not, Lexeme::Name(name), ..] => Some(Found {
+            positive: false,
+            before: false,
+            name,
+            count: 2,
+        }),
+        [Lexeme::Not, Lexeme::Prime, Lexeme::Name(name), ..] => Some(Found {
+            positive: false,
+            before: true,
+            name,
+            count: 3,
+        }),
         _ => None,
     }
 }
@@ -48,23 +79,23 @@ fn literals(alloc: Global, lexemes: &[Lexeme]) -> Result<Vec<PlainLiteral>, Read
     let mut literals = Vec::new(alloc);
     let mut rest = lexemes;
     'reading: loop {
-        let Some((positive, name, count)) = literal_at(rest) else {
+        let Some(found) = literal_at(rest) else {
             return Err(ReadFault::Syntax);
         };
-        let literal = match plain(alloc, positive, name) {
+        let literal = match literal(alloc, &found) {
             Ok(literal) => literal,
             Err(fault) => return Err(fault),
         };
         if literals.push(literal).is_err() {
             return Err(ReadFault::Memory);
         }
-        if count == rest.len() {
+        if found.count == rest.len() {
             return Ok(literals);
         }
-        if !rest[count].is_comma() {
+        if !rest[found.count].is_comma() {
             return Err(ReadFault::Syntax);
         }
-        rest = &rest[count + 1..];
+        rest = &rest[found.count + 1..];
     }
 }
 

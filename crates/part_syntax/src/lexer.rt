@@ -3,7 +3,7 @@ ghost use Rattle.std.specs.List.{prefix_len, list_all};
 ghost use Rattle.std.specs.Option.{option_map};
 ghost use Rattle.std.specs.Str.{bytes_eq};
 ghost use Rattle.part_syntax.specs.Tokens.{is_white, is_between, is_name_byte, is_name, begins};
-ghost use Rattle.part_syntax.specs.Reading.{token_of, tokens_of, with_first, lex, word_token, is_inner, is_comma};
+ghost use Rattle.part_syntax.specs.Reading.{token_of, tokens_of, with_first, lex, word_token, word_len, mark_of, is_inner, is_comma};
 
 use crate::fault::ReadFault;
 use std::alloc::Global;
@@ -13,9 +13,14 @@ use std::alloc::Global;
 pub enum Lexeme<'a> {
     Name(&'a [u8]),
     Not,
+    /// The word `#program`.
+    Program,
     If,
     Comma,
     Stop,
+    Open,
+    Close,
+    Prime,
 }
 
 impl Lexeme<'_> {
@@ -65,8 +70,8 @@ fn white_len(bytes: &[u8]) -> usize
     bytes.len()
 }
 
-/// How many bytes of a word stand at the front.
-fn word_len(bytes: &[u8]) -> usize
+/// How many letters, digits and `_` stand at the front.
+fn name_len(bytes: &[u8]) -> usize
     ensures len { result ≡ prefix_len is_name_byte bytes.now }
     ensures within { result ≤ length bytes.now }
 {
@@ -76,6 +81,17 @@ fn word_len(bytes: &[u8]) -> usize
         }
     }
     bytes.len()
+}
+
+/// How many bytes of a word stand at the front: letters, digits and `_`, which `#` may come before.
+fn word_len(bytes: &[u8]) -> usize
+    ensures len { result ≡ word_len bytes.now }
+    ensures within { result ≤ length bytes.now }
+{
+    match bytes {
+        [b'#', more @ ..] => name_len(more) + 1,
+        _ => name_len(bytes),
+    }
 }
 
 /// Whether the word is `not`.
@@ -116,6 +132,8 @@ fn word_token(word: &[u8]) -> Option<Lexeme<'_>>
 {
     if is_not(word) {
         Some(Lexeme::Not)
+    } else if word == b"#program".as_slice() {
+        Some(Lexeme::Program)
     } else if is_name(word) {
         Some(Lexeme::Name(word))
     } else {
@@ -123,25 +141,39 @@ fn word_token(word: &[u8]) -> Option<Lexeme<'_>>
     }
 }
 
+/// The token that is this byte.
+fn mark_of(byte: u8) -> Option<Lexeme<'static>>
+    ensures { option_map token_of result ≡ mark_of byte }
+{
+    match byte {
+        b'.' => Some(Lexeme::Stop),
+        b',' => Some(Lexeme::Comma),
+        b'{' => Some(Lexeme::Open),
+        b'}' => Some(Lexeme::Close),
+        b'\'' => Some(Lexeme::Prime),
+        _ => None,
+    }
+}
+
 /// The token at the front that is no word, and the bytes after it.
 fn mark_at(bytes: &[u8]) -> Option<(Lexeme<'_>, &[u8])>
-    requires some { 0 < length bytes.now }
     requires visible { begins is_white bytes.now ≡ false }
-    requires no_word { prefix_len is_name_byte bytes.now ≡ 0 }
+    requires no_word { word_len bytes.now ≡ 0 }
+    requires some { 0 < length bytes.now }
     ensures token { MatchOption result (lex bytes.now ≡ None)
         (λ found. lex bytes.now ≡ with_first (token_of found.0) (lex found.1.now)) }
     ensures shorter { IfSome result (λ found. length found.1.now < length bytes.now) }
 {
-    if let Some(rest) = bytes.strip_prefix(b".".as_slice()) {
-        return Some((Lexeme::Stop, rest));
-    }
-    if let Some(rest) = bytes.strip_prefix(b",".as_slice()) {
-        return Some((Lexeme::Comma, rest));
-    }
     if let Some(rest) = bytes.strip_prefix(b":-".as_slice()) {
         return Some((Lexeme::If, rest));
     }
-    None
+    let [first, rest @ ..] = bytes else {
+        return None;
+    };
+    let Some(mark) = mark_of(*first) else {
+        return None;
+    };
+    Some((mark, rest))
 }
 
 /// The token at the front, and the bytes after it.

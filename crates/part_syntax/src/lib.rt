@@ -3,6 +3,7 @@
 
 mod bodies;
 mod fault;
+mod items;
 mod lexer;
 mod reader;
 mod statements;

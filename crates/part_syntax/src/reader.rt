@@ -10,7 +10,7 @@ use crate::statements::rules;
 use sqlite_items::Items;
 use std::alloc::Global;
 use tel_base::Text;
-use tel_rule::{Program, Rule};
+use tel_rule::{Part, Program, Rule};
 
 /// The rules of a text.
 fn text_rules(alloc: Global, text: &[u8]) -> Result<Vec<Rule>, ReadFault>
@@ -18,7 +18,7 @@ fn text_rules(alloc: Global, text: &[u8]) -> Result<Vec<Rule>, ReadFault>
     ensures syntax { IfErr result (λ fault. fault ≡ ReadFault.Syntax → read_text text.now ≡ None) }
 {
     match tokens(alloc, text) {
-        Ok(lexemes) => rules(alloc, lexemes.as_slice()),
+        Ok(lexemes) => rules(alloc, Part::Initial, lexemes.as_slice()),
         Err(fault) => Err(fault),
     }
 }
@@ -43,9 +43,16 @@ fn all_rules(alloc: Global, texts: &[Text]) -> Result<Vec<Rule>, ReadFault>
 
 /// Reads the program of these texts: its rules are those of the texts, one text after another. A
 /// text is statements, each with a stop at its end: a fact `a.`, a rule `a :- b, not c.`, or a
-/// constraint `:- a, b.`. The body of a rule or a constraint may be empty. A name is a lower-case
-/// letter and then letters, digits and `_`, and isn't `not`. Spaces, tabs and line ends may stand
-/// between tokens. All rules are of the initial part.
+/// constraint `:- a, b.`. The body of a rule or a constraint may be empty. A head in braces, `{a}`,
+/// is a choice. A prime behind a head's name, as in `a'`, is for the next instant, and one before a
+/// body's name, as in `'a`, for the instant before.
+///
+/// The statements of a text are of the initial part, up to a directive `#program P.`, where P is
+/// `initial`, `dynamic`, `always` or `final`: behind it they are of the part P, up to the next
+/// directive. A directive gives no rule, and says nothing of the next text.
+///
+/// A name is a lower-case letter and then letters, digits and `_`, and isn't `not`. Spaces, tabs
+/// and line ends may stand between tokens.
 ///
 /// `Syntax` comes exactly where there is no such program. `Memory` is want of memory.
 pub fn read(alloc: Global, texts: &[Text]) -> Result<Program, ReadFault>

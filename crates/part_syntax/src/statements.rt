@@ -1,81 +1,13 @@
-ghost use Rattle.std.specs.Prelude.{◌≡◌, ◌<◌, ◌≤◌, ◌^◌, false, Some, None, length, IfOk, IfErr};
+ghost use Rattle.std.specs.Prelude.{◌≡◌, ◌<◌, ◌≤◌, ◌^◌, ◌++◌, ◌∷◌, [], Some, None, length, OnOk, IfOk, IfErr};
 ghost use Rattle.std.specs.List.{prefix_len};
-ghost use Rattle.std.specs.Option.{option_map};
-ghost use Rattle.part_syntax.specs.Grammar.{fact};
-ghost use Rattle.part_syntax.specs.Reading.{token_of, tokens_of, is_inner, body_of, rule_of, statement_of, parse};
+ghost use Rattle.part_syntax.specs.Grammar.{rules_in};
+ghost use Rattle.part_syntax.specs.Reading.{token_of, tokens_of, is_inner, part_behind, rules_from};
 
-use crate::bodies::body;
 use crate::fault::ReadFault;
+use crate::items::{Item, item_of};
 use crate::lexer::Lexeme;
-use sqlite_items::Items;
 use std::alloc::Global;
-use tel_base::Text;
-use tel_rule::{Part, PlainHead, Rule};
-
-/// The head that derives the atom of this name. No error but want of memory.
-fn normal(alloc: Global, name: &[u8]) -> Result<PlainHead, ReadFault>
-    ensures ok { IfOk result (λ head. head ≡ PlainHead.Normal name.now false) }
-    ensures memory { IfErr result (λ fault. fault ≡ ReadFault.Memory) }
-{
-    match Text::from_slice(alloc, name) {
-        Ok(name) => Ok(PlainHead::Normal { name, after: false }),
-        Err(_) => Err(ReadFault::Memory),
-    }
-}
-
-/// The fact of this name. No error but want of memory.
-fn fact(alloc: Global, name: &[u8]) -> Result<Rule, ReadFault>
-    ensures ok { IfOk result (λ rule. rule ≡ fact name.now) }
-    ensures memory { IfErr result (λ fault. fault ≡ ReadFault.Memory) }
-{
-    match normal(alloc, name) {
-        Ok(head) => Ok(Rule {
-            part: Part::Initial,
-            head,
-            body: Items::new(alloc),
-        }),
-        Err(fault) => Err(fault),
-    }
-}
-
-/// The rule of this head and the tokens of its body.
-fn rule(alloc: Global, head: PlainHead, lexemes: &[Lexeme]) -> Result<Rule, ReadFault>
-    ensures ok { IfOk result (λ rule. option_map (rule_of head) (body_of (tokens_of lexemes.now)) ≡ Some rule) }
-    ensures syntax { IfErr result (λ fault. fault ≡ ReadFault.Syntax → body_of (tokens_of lexemes.now) ≡ None) }
-{
-    match body(alloc, lexemes) {
-        Ok(body) => Ok(Rule {
-            part: Part::Initial,
-            head,
-            body,
-        }),
-        Err(fault) => Err(fault),
-    }
-}
-
-/// The rule of a head with this name, and the tokens of its body.
-fn named_rule(alloc: Global, name: &[u8], lexemes: &[Lexeme]) -> Result<Rule, ReadFault>
-    ensures ok { IfOk result (λ rule. option_map (rule_of (PlainHead.Normal name.now false)) (body_of (tokens_of lexemes.now)) ≡ Some rule) }
-    ensures syntax { IfErr result (λ fault. fault ≡ ReadFault.Syntax → body_of (tokens_of lexemes.now) ≡ None) }
-{
-    match normal(alloc, name) {
-        Ok(head) => rule(alloc, head, lexemes),
-        Err(fault) => Err(fault),
-    }
-}
-
-/// The rule of a statement, by its tokens before the stop.
-fn statement(alloc: Global, lexemes: &[Lexeme]) -> Result<Rule, ReadFault>
-    ensures ok { IfOk result (λ rule. statement_of (tokens_of lexemes.now) ≡ Some rule) }
-    ensures syntax { IfErr result (λ fault. fault ≡ ReadFault.Syntax → statement_of (tokens_of lexemes.now) ≡ None) }
-{
-    match lexemes {
-        [Lexeme::Name(name)] => fact(alloc, name),
-        [Lexeme::If, body @ ..] => rule(alloc, PlainHead::None, body),
-        [Lexeme::Name(name), Lexeme::If, body @ ..] => named_rule(alloc, name, body),
-        _ => Err(ReadFault::Syntax),
-    }
-}
+use tel_rule::{Part, Rule};
 
 /// How many tokens stand before the first stop.
 fn statement_len(lexemes: &[Lexeme]) -> usize
@@ -92,25 +24,42 @@ fn statement_len(lexemes: &[Lexeme]) -> usize
     lexemes.len()
 }
 
-/// The rules of the tokens of a text.
-pub fn rules(alloc: Global, lexemes: &[Lexeme]) -> Result<Vec<Rule>, ReadFault>
-    ensures ok { IfOk result (λ rules. parse (tokens_of lexemes.now) ≡ Some rules.items) }
-    ensures syntax { IfErr result (λ fault. fault ≡ ReadFault.Syntax → parse (tokens_of lexemes.now) ≡ None) }
+/// Adds the rule of an item, if it has one, and gives the part of the statements behind the item.
+fn add(rules: &mut Vec<Rule>, part: Part, item: Item) -> Result<Part, ReadFault>
+    ensures rules { OnOk result (rules.new.items ≡ rules.old.items ++ rules_in part (item ∷ [])) }
+    ensures part { IfOk result (λ next. next ≡ part_behind part item) }
+    ensures memory { IfErr result (λ fault. fault ≡ ReadFault.Memory) }
+{
+    match item {
+        Item::Directive(next) => Ok(next),
+        Item::Statement { head, body } => match rules.push(Rule { part, head, body }) {
+            Ok(()) => Ok(part),
+            Err(_) => Err(ReadFault::Memory),
+        },
+    }
+}
+
+/// The rules of the tokens of a text, where the first ones are of this part.
+pub fn rules(alloc: Global, first: Part, lexemes: &[Lexeme]) -> Result<Vec<Rule>, ReadFault>
+    ensures ok { IfOk result (λ rules. rules_from first (tokens_of lexemes.now) ≡ Some rules.items) }
+    ensures syntax { IfErr result (λ fault. fault ≡ ReadFault.Syntax → rules_from first (tokens_of lexemes.now) ≡ None) }
 {
     let mut rules = Vec::new(alloc);
+    let mut part = first;
     let mut rest = lexemes;
     'reading: while !rest.is_empty() {
         let end = statement_len(rest);
         let [_, after @ ..] = &rest[end..] else {
             return Err(ReadFault::Syntax);
         };
-        let rule = match statement(alloc, &rest[..end]) {
-            Ok(rule) => rule,
+        let next = match item_of(alloc, &rest[..end]) {
+            Ok(next) => next,
             Err(fault) => return Err(fault),
         };
-        if rules.push(rule).is_err() {
-            return Err(ReadFault::Memory);
-        }
+        part = match add(&mut rules, part, next) {
+            Ok(behind) => behind,
+            Err(fault) => return Err(fault),
+        };
         rest = after;
     }
     Ok(rules)

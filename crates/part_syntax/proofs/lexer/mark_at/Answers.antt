@@ -1,23 +1,22 @@
-use Rattle.std.proofs.Common.{refl}
-use Rattle.part_syntax.specs.Tokens.{If, Comma, Stop}
-use Rattle.part_syntax.proofs.Lexing.{lex_mark, lex_without, lex_other}
+use Rattle.std.proofs.Common.{◌∙◌, ap, sym, drop, Option}
+use Rattle.std.proofs.lemmas.List.{take_rest}
+use Rattle.part_syntax.specs.Tokens.{Token}
+use Rattle.part_syntax.specs.Reading.{with_next, lex}
+use Rattle.part_syntax.proofs.Lexing.{lex_if, no_if, lex_byte}
 use Rattle.part_syntax.proofs.lexer.mark_at.Goals as goal
 
 pub returns-in-Some-clause-token : goal.returns-in-Some-clause-token
 returns-in-Some-clause-token c =
-    lex_mark Stop c.args.bytes.now c.in-Some.rest.now c.as_slice.result.now refl c.as_slice.ensures c.in-Some.ensures.cases.0 c.in-Some.ensures.cases.1
+    lex_if c.args.bytes.now c.in-Some.rest.now c.as_slice.result.now c.as_slice.ensures c.in-Some.ensures.cases.0 c.in-Some.ensures.cases.1
 
-pub returns-in-Some-strip_prefix-clause-token : goal.returns-in-Some-strip_prefix-clause-token
-returns-in-Some-strip_prefix-clause-token c =
-    lex_mark Comma c.args.bytes.now c.in-Some-strip_prefix.rest.now c.as_slice-2.result.now refl c.as_slice-2.ensures c.in-Some-strip_prefix.ensures.cases.0 c.in-Some-strip_prefix.ensures.cases.1
-
-pub returns-in-Some-strip_prefix-2-clause-token : goal.returns-in-Some-strip_prefix-2-clause-token
-returns-in-Some-strip_prefix-2-clause-token c =
-    lex_mark If c.args.bytes.now c.in-Some-strip_prefix-2.rest.now c.as_slice-3.result.now refl c.as_slice-3.ensures c.in-Some-strip_prefix-2.ensures.cases.0 c.in-Some-strip_prefix-2.ensures.cases.1
+pub returns-in_default-mark_of-clause-token : goal.returns-in_default-mark_of-clause-token
+returns-in_default-mark_of-clause-token c =
+    let differs = no_if c.args.bytes.now c.as_slice.result.now c.as_slice.ensures c.in_default.ensures.cases in
+    lex_byte c.args.bytes.now c.requires.some c.requires.visible c.requires.no_word differs
+    ∙ ap (λ (o : Option Token). with_next o (lex (drop 1 c.args.bytes.now))) (sym c.in_default-mark_of.ensures)
 
 pub returns-clause-token : goal.returns-clause-token
 returns-clause-token c =
-    lex_other c.args.bytes.now c.requires.some c.requires.visible c.requires.no_word
-    (lex_without Stop c.args.bytes.now c.as_slice.result.now c.as_slice.ensures c.in_default.ensures.cases)
-    (lex_without Comma c.args.bytes.now c.as_slice-2.result.now c.as_slice-2.ensures c.in_default-strip_prefix.ensures.cases)
-    (lex_without If c.args.bytes.now c.as_slice-3.result.now c.as_slice-3.ensures c.in_default-strip_prefix-2.ensures.cases)
+    let differs = no_if c.args.bytes.now c.as_slice.result.now c.as_slice.ensures c.in_default.ensures.cases in
+    rw take_rest (lex_byte c.args.bytes.now c.requires.some c.requires.visible c.requires.no_word differs
+    ∙ ap (λ (o : Option Token). with_next o (lex (drop 1 c.args.bytes.now))) (sym c.in-Some-mark_of.ensures))
