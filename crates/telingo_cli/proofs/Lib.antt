@@ -1,5 +1,5 @@
 pub mod Fronts
-pub mod Prints
+pub mod Writing
 pub mod Named
 pub mod Grounded
 pub mod Verdicts

@@ -1,8 +1,15 @@
 -- The lengths of a run, one after another.
-use Rattle.std.proofs.Common.{◌≡◌, ℕ, ◌+◌, ◌-◌, ◌<◌, ◌≤◌, zero, suc, Bool, true, false, ◌||◌, cond, nat_lt, List, [], ◌∷◌, ◌++◌, append-nil, length, refl, sym, ap, ◌∙◌, subst, arith, append_assoc}
+use Rattle.std.proofs.Common.{◌≡◌, ℕ, ◌+◌, ◌-◌, ◌<◌, ◌≤◌, zero, suc, Bool, true, false, ◌||◌, cond, nat_lt, List, [], ◌∷◌, ◌++◌, append-nil, length, refl, sym, ap, ◌∙◌, subst, arith, append_assoc, Option, Result, Ok, Err}
 use Rattle.std.specs.List.{flat_map, list_any, range_with_len}
 use Rattle.std.proofs.lemmas.Grind.{flat_map-append}
+use Rattle.tel_base.specs.Bytes.{Appends, AppendsFront}
+use Rattle.tel_base.specs.Counts.{Rose}
+use Rattle.tel_base.proofs.Told.{appends-then, front-then, front-in-first}
 use Rattle.tel_settings.specs.Run.{lengths_from}
+use Rattle.telingo_cli.specs.declared.running.RunFault.{RunFault}
+use Rattle.telingo_cli.specs.declared.running.RunFault.TheVariants.{Write, Memory}
+use Rattle.telingo_cli.specs.Running.{Runs}
+use Rattle.telingo_cli.proofs.Writing.{fault_at}
 
 -- one length more
 pub lengths-step : (is_last : ℕ → Bool) (n imax : ℕ) → n < imax → lengths_from is_last (n + 1) (imax - n) ≡ (n + 1) ∷ cond (is_last (n + 1)) [] (lengths_from is_last (n + 1 + 1) (imax - (n + 1)))
@@ -65,3 +72,14 @@ any-append p (y ∷ ys) x = elim (p y) as (λ b. (b || list_any p (ys ++ x ∷ [
 
 pub found-next : (has : ℕ → Bool) (n : ℕ) → list_any has (range_with_len 1 (n + 1)) ≡ (list_any has (range_with_len 1 n) || has (n + 1))
 found-next has n = ap (list_any has) (range-next n) ∙ any-append has (range_with_len 1 n) (n + 1)
+
+-- a call that prints b, after one that has printed a
+pub runs-then : {T : Type 0} (result : Result T RunFault) (a b : List ℕ) (old mid new : Option (List ℕ)) (before between now : ℕ) → Appends old mid a → between ≡ before → Runs result b mid new between now → Runs result (a ++ b) old new before now
+runs-then (Ok done) a b old mid new before between now first stands then = (appends-then old mid new a b first then.0, then.1 ∙ stands)
+runs-then (Err Write) a b old mid new before between now first stands then = (front-then old mid new a b first then.0, subst (λ (n : ℕ). Rose n now) stands then.1)
+runs-then (Err Memory) a b old mid new before between now first stands then = (front-then old mid new a b first then.0, then.1 ∙ stands)
+
+-- a call that was cut short while it printed a, where b was to follow
+pub runs-short : (T U : Type 0) (fault : RunFault) (a b : List ℕ) (old new : Option (List ℕ)) (before now : ℕ) → Runs (fault_at T fault) a old new before now → Runs (fault_at U fault) (a ++ b) old new before now
+runs-short T U Write a b old new before now short = (front-in-first old new a b short.0, short.1)
+runs-short T U Memory a b old new before now short = (front-in-first old new a b short.0, short.1)

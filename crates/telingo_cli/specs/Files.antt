@@ -1,7 +1,5 @@
 -- What a call that reads files says of the source's count.
 use Rattle.std.specs.Prelude.{◌≡◌, ℕ, Result, Ok, Err}
-use Rattle.tel_base.specs.declared.texts.Text.{Text}
-use Rattle.std.specs.Prelude.{Vec, Global}
 use Rattle.telingo_cli.specs.declared.files.FilesFault.{FilesFault}
 use Rattle.telingo_cli.specs.declared.files.FilesFault.TheVariants.{Large, Read, Memory}
 

@@ -2,7 +2,7 @@ pub mod Texts
 pub mod Files
 pub mod Reading
 pub mod Delivery
-pub mod Printing
+pub mod Running
 pub mod Naming
 pub mod Verdict
 pub mod Refusals

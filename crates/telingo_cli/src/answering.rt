@@ -1,24 +1,24 @@
 //! The answer to a text: its verdict, and what is printed for it.
 ghost use Rattle.std.specs.Prelude.{◌≡◌, ℕ, ◌<◌, ◌≤◌, ◌*◌, ◌^◌, ◌↔◌, List, [], ◌∷◌, Option, length, max, IsTrue, if◌then◌else◌};
 ghost use Rattle.tel_base.specs.Bytes.{Appends};
+ghost use Rattle.trace_print.specs.Waiting.{Writes};
 ghost use Rattle.tel_settings.specs.Run.{run_status};
 ghost use Rattle.part_syntax.specs.Grammar.{total_bytes};
 ghost use Rattle.telingo_cli.specs.Reading.{largest_text};
 ghost use Rattle.telingo_cli.specs.Naming.{most_atoms};
-ghost use Rattle.telingo_cli.specs.Printing.{Prints};
+ghost use Rattle.telingo_cli.specs.Running.{Runs};
 ghost use Rattle.telingo_cli.specs.Delivery.{code_of, Delivers, TellsFaults};
 ghost use Rattle.telingo_cli.specs.Verdict.{Verdict, Accepted, IsVerdict, places_of, count_of, printed_run, status_of, output_of, large_line, read_line, TellsOfText, ComesOfText, Answers};
 ghost use Rattle.telingo_cli.specs.Refusals.{refusal_status, refusal_line};
 
 use crate::grounding::template;
 use crate::naming::TemplateFault;
-use crate::printing::{PrintFault, put};
-use crate::running::print_run;
+use crate::running::{RunFault, print_run};
 use crate::status::Status;
 use itoa::Buffer;
 use part_syntax::{ReadFault, read};
 use std::alloc::Global;
-use tel_base::{Sink, Text};
+use tel_base::{Failed, Sink, Text, write_whole};
 use tel_rule::{Program, Template};
 use tel_settings::Settings;
 
@@ -55,19 +55,25 @@ impl Refusal {
     }
 }
 
-/// The status after printing that was to end with this one.
-fn after_printing(printed: Result<(), PrintFault>, status: Status) -> Status
+/// The status after a write that was to end with this one.
+fn after_writing(written: Result<(), Failed>, status: Status) -> Status
     requires whole { code_of status < 71 }
-    ensures delivers { (bytes : List ℕ) (old new : Option (List ℕ)) (before now : ℕ) → Prints printed bytes old new before now
+    ensures delivers { (bytes : List ℕ) (old new : Option (List ℕ)) (before now : ℕ) → Writes written bytes old new before now
         → Delivers (code_of result) (code_of status) bytes old new }
-    ensures faults { (bytes : List ℕ) (old new : Option (List ℕ)) (before now : ℕ) → Prints printed bytes old new before now
+    ensures faults { (bytes : List ℕ) (old new : Option (List ℕ)) (before now : ℕ) → Writes written bytes old new before now
         → TellsFaults (code_of result) before now }
 {
-    match printed {
+    match written {
         Ok(()) => status,
-        Err(PrintFault::Write) => Status::Write,
-        Err(PrintFault::Memory) => Status::Memory,
+        Err(_) => Status::Write,
     }
+}
+
+/// Writes a line, or a part of one.
+fn write_line<O: Sink>(out: &mut O, line: &[u8]) -> Result<(), Failed>
+    ensures { Writes result line.now (O.bytes out.old) (O.bytes out.new) (O.faults out.old) (O.faults out.new) }
+{
+    write_whole(out, line)
 }
 
 /// Prints the line of a refusal.
@@ -75,22 +81,22 @@ pub fn refuse<O: Sink>(out: &mut O, refusal: Refusal) -> Status
     ensures delivers { Delivers (code_of result) (refusal_status refusal) (refusal_line refusal) (O.bytes out.old) (O.bytes out.new) }
     ensures faults { TellsFaults (code_of result) (O.faults out.old) (O.faults out.new) }
 {
-    let printed = put(out, refusal.line());
-    after_printing(printed, refusal.status())
+    let written = write_line(out, refusal.line());
+    after_writing(written, refusal.status())
 }
 
-/// Prints the line of a failed read of the file word at this place, from 0.
-fn put_read_line<O: Sink>(out: &mut O, place: usize) -> Result<(), PrintFault>
+/// Writes the line of a failed read of the file word at this place, from 0.
+fn write_read_line<O: Sink>(out: &mut O, place: usize) -> Result<(), Failed>
     requires { place < 2 ^ 63 }
-    ensures { Prints result (read_line place) (O.bytes out.old) (O.bytes out.new) (O.faults out.old) (O.faults out.new) }
+    ensures { Writes result (read_line place) (O.bytes out.old) (O.bytes out.new) (O.faults out.old) (O.faults out.new) }
 {
     let mut digits = Buffer::new();
-    match put(out, b"error: read ") {
+    match write_line(out, b"error: read ") {
         Ok(()) => {}
         Err(fault) => return Err(fault),
     }
-    match put(out, digits.format(place as u64 + 1).as_bytes()) {
-        Ok(()) => put(out, b"\n"),
+    match write_line(out, digits.format(place as u64 + 1).as_bytes()) {
+        Ok(()) => write_line(out, b"\n"),
         Err(fault) => Err(fault),
     }
 }
@@ -101,8 +107,8 @@ pub fn refuse_read<O: Sink>(out: &mut O, place: usize) -> Status
     ensures delivers { Delivers (code_of result) 66 (read_line place) (O.bytes out.old) (O.bytes out.new) }
     ensures faults { TellsFaults (code_of result) (O.faults out.old) (O.faults out.new) }
 {
-    let printed = put_read_line(out, place);
-    after_printing(printed, Status::Read)
+    let written = write_read_line(out, place);
+    after_writing(written, Status::Read)
 }
 
 /// The status of a run of which some length has a trace, or none.
@@ -120,8 +126,8 @@ fn answer_template<O: Sink>(alloc: Global, out: &mut O, settings: &Settings, tem
 {
     match print_run(alloc, out, settings, template) {
         Ok(found) => status_after(found),
-        Err(PrintFault::Write) => Status::Write,
-        Err(PrintFault::Memory) => Status::Memory,
+        Err(RunFault::Write) => Status::Write,
+        Err(RunFault::Memory) => Status::Memory,
     }
 }
 

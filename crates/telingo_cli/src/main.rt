@@ -4,7 +4,6 @@
 mod answering;
 mod files;
 mod grounding;
-mod lines;
 mod naming;
 mod printing;
 mod reading;
