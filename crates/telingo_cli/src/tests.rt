@@ -65,7 +65,7 @@ fn answer_to<S: Source + Drop>(
 fn answer_of(alloc: Global, text: &[u8]) -> Result<Answer, Fail> {
     let texts = source_of(alloc, text, 0)?;
     let out = MemSink::new(alloc, 1024, 1024, Vec::new(alloc))?;
-    answer_to(alloc, ["plan"].as_slice(), texts, out)
+    answer_to(alloc, ["--imax=1", "plan"].as_slice(), texts, out)
 }
 
 #[test]
@@ -173,29 +173,34 @@ fn sizes(rt: HostRuntime) -> Result<(), Fail> {
     Ok(())
 }
 
-/// Three texts, under a name, the hyphen and the empty word. The second read is the one that shows
-/// the end of a short text.
+/// Four texts, under two names, the hyphen and the empty word. The second read is the one that shows
+/// the end of a short text, and the third the first one of the next file.
 #[test]
 fn words_and_reads(rt: HostRuntime) -> Result<(), Fail> {
     let alloc = rt.alloc();
     let empty = "length 1\ntrace\nstate 0:\nend complete 1\n";
     let a = "length 1\ntrace\nstate 0: a\nend complete 1\n";
-    let b = "length 1\ntrace\nstate 0: b\nend complete 1\n";
+    let a_b = "length 1\ntrace\nstate 0: a b\nend complete 1\n";
     for (words, fails, want_status, want) in [
         ([].as_slice(), 1, 64, "error: usage\n"),
-        (["plan", "plan"].as_slice(), 1, 64, "error: usage\n"),
-        (["-x"].as_slice(), 1, 64, "error: usage\n"),
-        (["--"].as_slice(), 1, 64, "error: usage\n"),
-        (["plan"].as_slice(), 0, 10, empty),
-        (["-"].as_slice(), 0, 10, a),
-        ([""].as_slice(), 0, 10, b),
-        (["missing"].as_slice(), 0, 66, "error: read 1\n"),
-        (["-"].as_slice(), 1, 66, "error: read 1\n"),
-        (["-"].as_slice(), 2, 66, "error: read 1\n"),
-        (["-"].as_slice(), 3, 10, a),
+        (["--imax=1"].as_slice(), 1, 64, "error: usage\n"),
+        (["--imax=1", "-x"].as_slice(), 1, 64, "error: usage\n"),
+        (["--imax=1001", "plan"].as_slice(), 1, 64, "error: usage\n"),
+        (["--istop=never", "plan"].as_slice(), 1, 64, "error: usage\n"),
+        (["--imax=1", "plan"].as_slice(), 0, 10, empty),
+        (["-", "--imax=1"].as_slice(), 0, 10, a),
+        (["", "--imax=1", "plan", "-"].as_slice(), 0, 10, a_b),
+        (["--imax=1", "missing"].as_slice(), 0, 66, "error: read 1\n"),
+        (["--imax=1", "-"].as_slice(), 1, 66, "error: read 1\n"),
+        (["--imax=1", "-"].as_slice(), 2, 66, "error: read 1\n"),
+        (["--imax=1", "-"].as_slice(), 3, 10, a),
+        (["--imax=1", "broken"].as_slice(), 0, 65, "error: Syntax\n"),
+        (["--imax=1", "broken", "-"].as_slice(), 3, 66, "error: read 2\n"),
+        (["--imax=1", "-", "missing"].as_slice(), 0, 66, "error: read 2\n"),
+        (["--imax=1", "-", "-"].as_slice(), 3, 66, "error: read 1\n"),
     ] {
         let mut texts = Vec::new(alloc);
-        for (name, text) in [("plan", ""), ("-", "a."), ("", "b.")] {
+        for (name, text) in [("plan", ""), ("-", "a."), ("", "b."), ("broken", "p :- 'p")] {
             texts.push((
                 String::from_str(alloc, name)?,
                 Vec::from_slice(alloc, text.as_bytes())?,
@@ -210,6 +215,81 @@ fn words_and_reads(rt: HostRuntime) -> Result<(), Fail> {
             want.as_bytes(),
             "at {words:?} and {fails}"
         );
+    }
+    Ok(())
+}
+
+/// Two files, of which the second is empty in most rows.
+#[test]
+fn lengths(rt: HostRuntime) -> Result<(), Fail> {
+    let alloc = rt.alloc();
+    let two = "length 1\ntrace\nstate 0: a\nend complete 1\nlength 2\ntrace\nstate 0: a\nstate 1:\nend complete 1\n";
+    for (first, second, stop, imin, imax, want_status, want) in [
+        ("a.", "", "--istop=unsat", "--imin=0", "--imax=2", 10, two),
+        ("a.", "", "--istop=sat", "--imin=2", "--imax=2", 10, two),
+        ("#program always.", "a.", "--istop=unsat", "--imin=0", "--imax=2", 10, two),
+        (
+            "#program always. a :- not b. b :- not a.",
+            "",
+            "--istop=unsat",
+            "--imin=0",
+            "--imax=2",
+            10,
+            "length 1\ntrace\nstate 0: b\ntrace\nstate 0: a\nend complete 2\nlength 2\ntrace\nstate 0: b\nstate 1: b\ntrace\nstate 0: b\nstate 1: a\ntrace\nstate 0: a\nstate 1: b\ntrace\nstate 0: a\nstate 1: a\nend complete 4\n",
+        ),
+        (
+            "a. #program always. b' :- a.",
+            "",
+            "--istop=sat",
+            "--imin=0",
+            "--imax=2",
+            10,
+            "length 1\nend complete 0\nlength 2\ntrace\nstate 0: a\nstate 1: b\nend complete 1\n",
+        ),
+        (
+            "a. #program always. {b'} :- a.",
+            "#program dynamic. :- not 'a, b. #program final. :- not b.",
+            "--istop=sat",
+            "--imin=0",
+            "--imax=3",
+            10,
+            "length 1\nend complete 0\nlength 2\ntrace\nstate 0: a\nstate 1: b\nend complete 1\n",
+        ),
+        (
+            "{a}. {b}. :- a, b. :- a, not b. :- not a, b. :- not a, not b.",
+            "",
+            "--istop=sat",
+            "--imin=0",
+            "--imax=1",
+            20,
+            "length 1\nend complete 0\n",
+        ),
+        (
+            ":- not a.",
+            "",
+            "--istop=unsat",
+            "--imin=2",
+            "--imax=3",
+            20,
+            "length 1\nend complete 0\nlength 2\nend complete 0\n",
+        ),
+        ("a.", "", "--istop=sat", "--imin=0", "--imax=13", 69, "error: large\n"),
+        ("a.", "b.", "--istop=sat", "--imin=0", "--imax=7", 69, "error: large\n"),
+        ("a.", "", "--istop=sat", "--imin=0", "--imax=0", 20, ""),
+    ] {
+        let mut texts = Vec::new(alloc);
+        for (name, text) in [("first", first), ("second", second)] {
+            texts.push((
+                String::from_str(alloc, name)?,
+                Vec::from_slice(alloc, text.as_bytes())?,
+            ))?;
+        }
+        let source = MemSource::new(texts, Vec::new(alloc));
+        let out = MemSink::new(alloc, 1024, 1024, Vec::new(alloc))?;
+        let words = [imin, "first", imax, stop, "second"];
+        let (status, printed) = answer_to(alloc, words.as_slice(), source, out)?;
+        assert_eq!(rt; status, want_status, "at {first} and {second}");
+        assert_eq!(rt; printed.as_slice(), want.as_bytes(), "at {first} and {second}");
     }
     Ok(())
 }
@@ -241,7 +321,7 @@ fn writes(rt: HostRuntime) -> Result<(), Fail> {
         prove!(most >= 1);
         let texts = source_of(alloc, text.as_bytes(), read)?;
         let out = MemSink::new(alloc, room, most, vec![in alloc; write]?)?;
-        let (status, printed) = answer_to(alloc, ["plan"].as_slice(), texts, out)?;
+        let (status, printed) = answer_to(alloc, ["--imax=1", "plan"].as_slice(), texts, out)?;
         assert_eq!(rt; status, want_status, "at {text}, {room}, {most}, {write}");
         assert_eq!(rt;
             printed.as_slice(),
@@ -268,7 +348,7 @@ fn byte_by_byte(rt: HostRuntime) -> Result<(), Fail> {
             texts: source_of(alloc, text.as_bytes(), 0)?,
         };
         let out = MemSink::new(alloc, 1024, 1, Vec::new(alloc))?;
-        let (status, printed) = answer_to(alloc, ["plan"].as_slice(), texts, out)?;
+        let (status, printed) = answer_to(alloc, ["--imax=1", "plan"].as_slice(), texts, out)?;
         assert_eq!(rt; status, want_status, "at {text}");
         assert_eq!(rt; printed.as_slice(), want.as_bytes(), "at {text}");
     }
