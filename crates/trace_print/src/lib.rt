@@ -5,5 +5,7 @@
 mod lines;
 mod pieces;
 mod printing;
+#[cfg(test)]
+mod tests;
 
 pub use printing::{print_end, print_length, print_trace};
