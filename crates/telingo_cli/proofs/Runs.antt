@@ -1,8 +1,8 @@
 -- The lengths of a run, one after another.
-use Rattle.std.proofs.Common.{◌≡◌, ℕ, ◌+◌, ◌-◌, ◌<◌, ◌≤◌, zero, suc, Bool, true, false, ◌||◌, cond, nat_lt, List, [], ◌∷◌, ◌++◌, append-nil, length, refl, sym, ap, ◌∙◌, subst, arith, append_assoc, Option, Result, Ok, Err}
+use Rattle.std.proofs.Common.{◌≡◌, ℕ, ◌+◌, ◌-◌, ◌<◌, ◌≤◌, zero, suc, Bool, true, false, ◌||◌, cond, List, [], ◌∷◌, ◌++◌, append-nil, refl, sym, ap, ◌∙◌, subst, arith, append_assoc, Option, Result, Ok, Err}
 use Rattle.std.specs.List.{flat_map, list_any, range_with_len}
 use Rattle.std.proofs.lemmas.Grind.{flat_map-append}
-use Rattle.tel_base.specs.Bytes.{Appends, AppendsFront}
+use Rattle.tel_base.specs.Bytes.{Appends}
 use Rattle.tel_base.specs.Counts.{Rose}
 use Rattle.tel_base.proofs.Told.{appends-then, front-then, front-in-first}
 use Rattle.tel_settings.specs.Run.{lengths_from}

@@ -1,6 +1,6 @@
 -- The texts of the file words, one after another.
-use Rattle.std.proofs.Common.{◌≡◌, ℕ, ◌+◌, ◌<◌, ◌≤◌, zero, suc, Bool, true, false, ◌||◌, cond, not, nat_lt, List, [], ◌∷◌, ◌++◌, length, take, drop, get_or, Option, Some, None, unwrap_or, IsTrue, refl, sym, ap, ◌∙◌, subst, arith, IfSome}
-use Rattle.std.specs.List.{position, prefix_len, list_any}
+use Rattle.std.proofs.Common.{◌≡◌, ℕ, ◌+◌, ◌<◌, ◌≤◌, zero, suc, Bool, true, false, ◌||◌, cond, not, nat_lt, List, [], ◌∷◌, ◌++◌, length, take, drop, get_or, Option, Some, None, unwrap_or, refl, sym, ap, ◌∙◌, subst, arith, IfSome}
+use Rattle.std.specs.List.{prefix_len, list_any}
 use Rattle.std.specs.Str.{bytes_eq}
 use Rattle.std.proofs.Math.Seq.{drop-cons}
 use Rattle.std.proofs.lemmas.List.{take_more, take-append-drop}
@@ -10,7 +10,7 @@ use Rattle.tel_base.specs.Counts.{Rose}
 use Rattle.tel_rule.specs.Rising.{has_name}
 use Rattle.part_syntax.specs.Grammar.{total_bytes}
 use Rattle.telingo_cli.specs.Reading.{largest_text, IsTold, HasMore}
-use Rattle.telingo_cli.specs.Texts.{AreTold, AreWhole, HaveLargeTexts, FailsAt, FailedAt, first_place}
+use Rattle.telingo_cli.specs.Texts.{AreTold, AreWhole, HaveLargeTexts, FailsAt, first_place}
 
 pub told-append : (told : List ℕ → Option (List ℕ)) (a b xs ys : List (List ℕ)) → AreTold told a xs → AreTold told b ys → AreTold told (a ++ b) (xs ++ ys)
 told-append told [] b xs ys first second = subst (λ (zs : List (List ℕ)). AreTold told b (zs ++ ys)) (sym first) second
@@ -47,11 +47,10 @@ large_files told names texts place most name within there before total more =
     let rest = told_texts told (drop (suc place) names) in
     let parts : names ≡ take place names ++ (name ∷ drop (suc place) names) = sym (take-append-drop place names) ∙ ap (λ tail. take place names ++ tail) (drop-cons names place name within ∙ ap (λ y. y ∷ drop (suc place) names) (sym there)) in
     let all = texts ++ (more.0 ∷ rest.0) in
-    let sum : total_bytes all ≡ total_bytes texts + (length more.0 + total_bytes rest.0) = total-append texts (more.0 ∷ rest.0) ∙ ap (λ n. total_bytes texts + n) (sum_by-cons (λ (t : List ℕ). length t) more.0 rest.0) in
-    (
+    let sum : total_bytes all ≡ total_bytes texts + (length more.0 + total_bytes rest.0) = total-append texts (more.0 ∷ rest.0) ∙ ap (λ n. total_bytes texts + n) (sum_by-cons (λ (t : List ℕ). length t) more.0 rest.0) in (
       all,
       subst (λ (ns : List (List ℕ)). AreTold told ns all) (sym parts) (told-append told (take place names) (name ∷ drop (suc place) names) texts (more.0 ∷ rest.0) before (more.0, rest.0, refl, more.1, rest.1)),
-      omega (arith, sum, more.2)
+      omega (arith, sum, more.2),
     )
 
 -- the whole texts are those that were read

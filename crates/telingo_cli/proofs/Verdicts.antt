@@ -92,14 +92,14 @@ accepted-complete settings rules code old new before now (inl whole) rose stands
     subst (λ (n : ℕ). IsTrue (is_among (10 ∷ 20 ∷ 71 ∷ []) n)) (sym whole.0)
     (run_kind (λ (n : ℕ). IsTrue (is_among (10 ∷ 20 ∷ 71 ∷ []) n)) (list_any (λ n. nat_lt 0 (count_of (template_of rules) n)) (lengths_of settings (count_of (template_of rules)))) refl refl)
 accepted-complete settings rules code old new before now (inr cut) rose stands = elim cut.0 [
-    | inl e ↦ subst (λ (n : ℕ). IsTrue (is_among (10 ∷ 20 ∷ 71 ∷ []) n)) (sym e) refl
-    | inr e ↦ absurd (stands-not-rose before now stands (rose e))
-  ]
+  | inl e ↦ subst (λ (n : ℕ). IsTrue (is_among (10 ∷ 20 ∷ 71 ∷ []) n)) (sym e) refl
+  | inr e ↦ absurd (stands-not-rose before now stands (rose e))
+]
 
 -- what was delivered under 66 was printed whole
 pub delivered-read : (code : ℕ) (bytes : List ℕ) (old new : Option (List ℕ)) → code ≡ 66 → Delivers code 66 bytes old new → Appends old new bytes
 delivered-read code bytes old new is (inl whole) = whole.1
 delivered-read code bytes old new is (inr cut) = elim cut.0 [
-    | inl e ↦ absurd (omega (arith, e, is))
-    | inr e ↦ absurd (omega (arith, e, is))
-  ]
+  | inl e ↦ absurd (omega (arith, e, is))
+  | inr e ↦ absurd (omega (arith, e, is))
+]

@@ -4,7 +4,7 @@ use Rattle.std.specs.List.{flat_map}
 use Rattle.std.proofs.Math.Seq.{drop-cons}
 use Rattle.std.proofs.lemmas.List.{take-append-drop}
 use Rattle.std.proofs.lemmas.Grind.{flat_map-append}
-use Rattle.tel_base.specs.Bytes.{Appends, AppendsFront}
+use Rattle.tel_base.specs.Bytes.{Appends}
 use Rattle.tel_base.proofs.Told.{appends-then, front-then, front-in-first, cause-then, cause-up}
 use Rattle.trace_print.specs.Waiting.{Writes}
 

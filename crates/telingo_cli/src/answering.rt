@@ -115,11 +115,20 @@ pub fn refuse_read<O: Sink>(out: &mut O, place: usize) -> Status
 fn status_after(found: bool) -> Status
     ensures { code_of result ≡ (if found then 10 else 20) }
 {
-    if found { Status::Models } else { Status::NoModel }
+    if found {
+        Status::Models
+    } else {
+        Status::NoModel
+    }
 }
 
 /// Prints a run, and answers its status.
-fn answer_template<O: Sink>(alloc: Global, out: &mut O, settings: &Settings, template: &Template) -> Status
+fn answer_template<O: Sink>(
+    alloc: Global,
+    out: &mut O,
+    settings: &Settings,
+    template: &Template,
+) -> Status
     requires { max settings.now.imax 1 * length template.now.atoms ≤ most_atoms }
     ensures delivers { Delivers (code_of result) (run_status settings.now (count_of template.now)) (printed_run settings.now template.now) (O.bytes out.old) (O.bytes out.new) }
     ensures faults { TellsFaults (code_of result) (O.faults out.old) (O.faults out.new) }
@@ -140,7 +149,12 @@ fn is_too_large(settings: &Settings, atoms: usize) -> bool
 }
 
 /// Answers a program, which may have too many names.
-fn answer_program<O: Sink>(alloc: Global, out: &mut O, settings: &Settings, program: &Program) -> Status
+fn answer_program<O: Sink>(
+    alloc: Global,
+    out: &mut O,
+    settings: &Settings,
+    program: &Program,
+) -> Status
     requires { length program.now.rules < 2 ^ 32 }
     ensures accepted { places_of settings.now program.now.rules ≤ most_atoms
         → Delivers (code_of result) (status_of settings.now (Accepted program.now.rules)) (output_of settings.now (Accepted program.now.rules)) (O.bytes out.old) (O.bytes out.new) }

@@ -65,7 +65,13 @@ pub fn read_files<S: Source>(
     let mut read = Vec::new(alloc);
     let mut total = 0;
     for word in words {
-        let text = match read_text(alloc, texts, word.as_str(), LARGEST_TEXT - total, &mut piece) {
+        let text = match read_text(
+            alloc,
+            texts,
+            word.as_str(),
+            LARGEST_TEXT - total,
+            &mut piece,
+        ) {
             Ok(text) => text,
             Err(TextFault::Large) => return Err(FilesFault::Large),
             Err(TextFault::Read) => return Err(FilesFault::Read(first_place(words, word.as_str()))),

@@ -186,7 +186,12 @@ fn words_and_reads(rt: HostRuntime) -> Result<(), Fail> {
         (["--imax=1"].as_slice(), 1, 64, "error: usage\n"),
         (["--imax=1", "-x"].as_slice(), 1, 64, "error: usage\n"),
         (["--imax=1001", "plan"].as_slice(), 1, 64, "error: usage\n"),
-        (["--istop=never", "plan"].as_slice(), 1, 64, "error: usage\n"),
+        (
+            ["--istop=never", "plan"].as_slice(),
+            1,
+            64,
+            "error: usage\n",
+        ),
         (["--imax=1", "plan"].as_slice(), 0, 10, empty),
         (["-", "--imax=1"].as_slice(), 0, 10, a),
         (["", "--imax=1", "plan", "-"].as_slice(), 0, 10, a_b),
@@ -195,8 +200,18 @@ fn words_and_reads(rt: HostRuntime) -> Result<(), Fail> {
         (["--imax=1", "-"].as_slice(), 2, 66, "error: read 1\n"),
         (["--imax=1", "-"].as_slice(), 3, 10, a),
         (["--imax=1", "broken"].as_slice(), 0, 65, "error: Syntax\n"),
-        (["--imax=1", "broken", "-"].as_slice(), 3, 66, "error: read 2\n"),
-        (["--imax=1", "-", "missing"].as_slice(), 0, 66, "error: read 2\n"),
+        (
+            ["--imax=1", "broken", "-"].as_slice(),
+            3,
+            66,
+            "error: read 2\n",
+        ),
+        (
+            ["--imax=1", "-", "missing"].as_slice(),
+            0,
+            66,
+            "error: read 2\n",
+        ),
         (["--imax=1", "-", "-"].as_slice(), 3, 66, "error: read 1\n"),
     ] {
         let mut texts = Vec::new(alloc);
@@ -223,11 +238,20 @@ fn words_and_reads(rt: HostRuntime) -> Result<(), Fail> {
 #[test]
 fn lengths(rt: HostRuntime) -> Result<(), Fail> {
     let alloc = rt.alloc();
-    let two = "length 1\ntrace\nstate 0: a\nend complete 1\nlength 2\ntrace\nstate 0: a\nstate 1:\nend complete 1\n";
+    let two =
+        "length 1\ntrace\nstate 0: a\nend complete 1\nlength 2\ntrace\nstate 0: a\nstate 1:\nend complete 1\n";
     for (first, second, stop, imin, imax, want_status, want) in [
         ("a.", "", "--istop=unsat", "--imin=0", "--imax=2", 10, two),
         ("a.", "", "--istop=sat", "--imin=2", "--imax=2", 10, two),
-        ("#program always.", "a.", "--istop=unsat", "--imin=0", "--imax=2", 10, two),
+        (
+            "#program always.",
+            "a.",
+            "--istop=unsat",
+            "--imin=0",
+            "--imax=2",
+            10,
+            two,
+        ),
         (
             "#program always. a :- not b. b :- not a.",
             "",
@@ -273,8 +297,24 @@ fn lengths(rt: HostRuntime) -> Result<(), Fail> {
             20,
             "length 1\nend complete 0\nlength 2\nend complete 0\n",
         ),
-        ("a.", "", "--istop=sat", "--imin=0", "--imax=13", 69, "error: large\n"),
-        ("a.", "b.", "--istop=sat", "--imin=0", "--imax=7", 69, "error: large\n"),
+        (
+            "a.",
+            "",
+            "--istop=sat",
+            "--imin=0",
+            "--imax=13",
+            69,
+            "error: large\n",
+        ),
+        (
+            "a.",
+            "b.",
+            "--istop=sat",
+            "--imin=0",
+            "--imax=7",
+            69,
+            "error: large\n",
+        ),
         ("a.", "", "--istop=sat", "--imin=0", "--imax=0", 20, ""),
     ] {
         let mut texts = Vec::new(alloc);
@@ -289,7 +329,11 @@ fn lengths(rt: HostRuntime) -> Result<(), Fail> {
         let words = [imin, "first", imax, stop, "second"];
         let (status, printed) = answer_to(alloc, words.as_slice(), source, out)?;
         assert_eq!(rt; status, want_status, "at {first} and {second}");
-        assert_eq!(rt; printed.as_slice(), want.as_bytes(), "at {first} and {second}");
+        assert_eq!(rt;
+            printed.as_slice(),
+            want.as_bytes(),
+            "at {first} and {second}"
+        );
     }
     Ok(())
 }

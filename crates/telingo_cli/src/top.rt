@@ -28,7 +28,12 @@ fn files(settings: &Settings) -> &[Word]
 }
 
 /// Answers the texts of the files.
-fn answer_files<S: Source, O: Sink>(alloc: Global, settings: &Settings, texts: &mut S, out: &mut O) -> Status
+fn answer_files<S: Source, O: Sink>(
+    alloc: Global,
+    settings: &Settings,
+    texts: &mut S,
+    out: &mut O,
+) -> Status
     ensures delivers { (whole : List (List ℕ)) (verdict : Verdict) → AreWhole (S.text texts.old) (files_of settings.now) whole → Stands (S.faults texts.old) (S.faults texts.new) → IsVerdict settings.now whole verdict
         → Delivers (code_of result) (status_of settings.now verdict) (output_of settings.now verdict) (O.bytes out.old) (O.bytes out.new) }
     ensures answers { TellsOfText (code_of result) → AnswersSome settings.now (S.text texts.old) (code_of result) (O.bytes out.old) (O.bytes out.new) }
@@ -48,7 +53,12 @@ fn answer_files<S: Source, O: Sink>(alloc: Global, settings: &Settings, texts: &
 }
 
 /// Answers the words, as `telingo` does.
-fn answer_words<S: Source, O: Sink>(alloc: Global, words: &[String], texts: &mut S, out: &mut O) -> Status
+fn answer_words<S: Source, O: Sink>(
+    alloc: Global,
+    words: &[String],
+    texts: &mut S,
+    out: &mut O,
+) -> Status
     ensures usage { settings_of (words_of words.now) ≡ None → Delivers (code_of result) 64 usage_line (O.bytes out.old) (O.bytes out.new) }
     ensures usage_only { code_of result ≡ 64 → settings_of (words_of words.now) ≡ None }
     ensures delivers { (settings : Settings) (whole : List (List ℕ)) (verdict : Verdict) → AreTextsOf (words_of words.now) (S.text texts.old) settings whole → Stands (S.faults texts.old) (S.faults texts.new) → IsVerdict settings whole verdict

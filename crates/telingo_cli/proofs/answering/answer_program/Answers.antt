@@ -1,4 +1,4 @@
-use Rattle.std.proofs.Common.{ℕ, List, subst}
+use Rattle.std.proofs.Common.{subst}
 use Rattle.tel_rule.specs.Ground.{Ground}
 use Rattle.tel_settings.specs.Run.{run_status}
 use Rattle.telingo_cli.specs.Delivery.{code_of, Delivers}

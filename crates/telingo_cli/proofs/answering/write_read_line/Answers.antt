@@ -1,4 +1,4 @@
-use Rattle.std.proofs.Common.{ℕ, ◌+◌, List, ◌++◌, Ok, codes, decimal, ap, ◌∙◌, subst}
+use Rattle.std.proofs.Common.{ℕ, ◌+◌, List, ◌++◌, Ok, codes, decimal, ◌∙◌, subst}
 use Rattle.trace_print.specs.Waiting.{Writes}
 use Rattle.telingo_cli.proofs.Writing.{fault_at, writes-then, writes-short}
 use Rattle.telingo_cli.proofs.answering.write_read_line.Goals as goal

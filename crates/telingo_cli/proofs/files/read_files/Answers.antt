@@ -24,13 +24,12 @@ returns-in-Err-Read-clause-read_only g c = λ place is.
     let same : c.first_place.result ≡ place = cc in
     let rose = c.in-Err-Read.ensures.read_only (ap Err c.in-Err-Read.field-0-is) in
     let named = c.in-Err-Read.ensures.read_named (ap Err c.in-Err-Read.field-0-is) in
-    let faults = g.S.Source.faults in
-    (
+    let faults = g.S.Source.faults in (
       name,
       fails-at c.args.words.now c.loop-word.read.items told (g.S.Source.failed c.read_text.new.texts) (faults c.args.texts.now) (faults c.read_text.new.texts) c.loop-word.word-index name c.loop-word-test.true c.word-item.is inv.told
-        (omega (arith, inv.total, inv.small)) (subst (λ (n : ℕ). Rose n (faults c.read_text.new.texts)) inv.stands rose)
-        (subst (λ (w : List ℕ). IfSome (g.S.Source.failed c.read_text.new.texts) (λ word. word ≡ w)) c.as_str.ensures named),
-      sym same ∙ c.first_place.ensures.place ∙ ap (first_place c.args.words.now) c.as_str-in-Err-Read.ensures
+          (omega (arith, inv.total, inv.small)) (subst (λ (n : ℕ). Rose n (faults c.read_text.new.texts)) inv.stands rose)
+          (subst (λ (w : List ℕ). IfSome (g.S.Source.failed c.read_text.new.texts) (λ word. word ≡ w)) c.as_str.ensures named),
+      sym same ∙ c.first_place.ensures.place ∙ ap (first_place c.args.words.now) c.as_str-in-Err-Read.ensures,
     )
 
 pub loop-word-preserved : goal.loop-word-preserved

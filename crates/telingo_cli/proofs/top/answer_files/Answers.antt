@@ -1,7 +1,7 @@
-use Rattle.std.proofs.Common.{◌≡◌, ℕ, ◌<◌, List, ◌⊎◌, inl, inr, sym, ap, ◌∙◌, subst}
+use Rattle.std.proofs.Common.{ℕ, ◌<◌, List, sym, ◌∙◌, subst}
 use Rattle.part_syntax.specs.Grammar.{total_bytes}
 use Rattle.telingo_cli.specs.Reading.{largest_text}
-use Rattle.telingo_cli.specs.Texts.{AreTold, FailsAt, FailedAt, first_place}
+use Rattle.telingo_cli.specs.Texts.{AreTold, FailedAt, first_place}
 use Rattle.telingo_cli.specs.Delivery.{code_of, Delivers}
 use Rattle.telingo_cli.specs.Verdict.{IsVerdict, read_line}
 use Rattle.telingo_cli.specs.Top.{files_of}
@@ -26,12 +26,12 @@ returns-in-Err-Large-clause-delivers g c = λ whole verdict told _ is.
 pub returns-in-Err-Read-clause-read : goal.returns-in-Err-Read-clause-read
 returns-in-Err-Read-clause-read g c = λ _.
     let failed = subst (λ (names : List (List ℕ)). FailedAt names (g.S.Source.text c.args.texts.now) (g.S.Source.failed c.read_files.new.texts) (g.S.Source.faults c.args.texts.now) (g.S.Source.faults c.read_files.new.texts) c.in-Err-Read.place) c.files.ensures
-        (c.in-Err-Read.ensures.read_only c.in-Err-Read.place c.in-Err-Read.field-0-is) in
+    (c.in-Err-Read.ensures.read_only c.in-Err-Read.place c.in-Err-Read.field-0-is) in
     (failed.0, failed.1, subst (λ (place : ℕ). Delivers (code_of c.refuse_read.result) 66 (read_line place) (g.O.Sink.bytes c.args.out.now) (g.O.Sink.bytes c.refuse_read.new.out)) (c.in-Err-Read.place-is ∙ failed.2) c.refuse_read.ensures.delivers)
 
 pub returns-in-Err-Read-clause-read_only : goal.returns-in-Err-Read-clause-read_only
 returns-in-Err-Read-clause-read_only g c = λ is.
     let failed = subst (λ (names : List (List ℕ)). FailedAt names (g.S.Source.text c.args.texts.now) (g.S.Source.failed c.read_files.new.texts) (g.S.Source.faults c.args.texts.now) (g.S.Source.faults c.read_files.new.texts) c.in-Err-Read.place) c.files.ensures
-        (c.in-Err-Read.ensures.read_only c.in-Err-Read.place c.in-Err-Read.field-0-is) in
+    (c.in-Err-Read.ensures.read_only c.in-Err-Read.place c.in-Err-Read.field-0-is) in
     let printed = subst (λ (place : ℕ). Delivers (code_of c.refuse_read.result) 66 (read_line place) (g.O.Sink.bytes c.args.out.now) (g.O.Sink.bytes c.refuse_read.new.out)) (c.in-Err-Read.place-is ∙ failed.2) c.refuse_read.ensures.delivers in
     (failed.0, failed.1, delivered-read (code_of c.refuse_read.result) (read_line (first_place (files_of c.args.settings.now) failed.0)) (g.O.Sink.bytes c.args.out.now) (g.O.Sink.bytes c.refuse_read.new.out) is printed)
