@@ -50,6 +50,10 @@ value_or-option : {X : Type 0} (default : X) (value : Option X) → value_or def
 value_or-option default None = refl
 value_or-option default (Some x) = refl
 
+pub one_or_more : {X : Type 0} (xs : List X) → (xs ≡ [] → ⊥) → 1 ≤ length xs
+one_or_more [] h = absurd (h refl)
+one_or_more (x ∷ xs) h = omega arith
+
 -- all words are in, and there is a file
 pub line_made : (words : List (List ℕ)) (given : Given) → Collects words given → 1 ≤ length given.files → settings_of words ≡ Some (collected given)
 line_made words given c some =
@@ -90,18 +94,10 @@ wrong_imax words e = after_imin words (and_left _ _ e)
 wrong_stop : (words : List (List ℕ)) → is_once (stop_rules words) ≡ false → is_line words ≡ false
 wrong_stop words e = after_imin words (and_right (is_once (imaxes words)) _ (and_left _ _ e))
 
-no_files : (words : List (List ℕ)) → nat_le 1 (length (files words)) ≡ false → is_line words ≡ false
-no_files words e = after_stop words (and_left _ _ e)
-
 many_files : (words : List (List ℕ)) → nat_le (length (files words)) 16 ≡ false → is_line words ≡ false
 many_files words e = after_stop words (and_right (nat_le 1 (length (files words))) _ e)
 
--- no file
-pub line_empty : (words : List (List ℕ)) (given : Given) → Collects words given → given.files ≡ [] → settings_of words ≡ None
-line_empty words given c none =
-    no_line words (no_files words (lt-leb 1 (length (files words)) (omega (arith, ap length c.files, ap length none))))
-
--- two parts of a list that are not empty
+-- a value that was given before, and once more
 twice : {X : Type 0} (value : Option X) (x : X) (xs ys : List X) → ys ≡ option_to_list value ++ x ∷ xs → IsSome value → is_once ys ≡ false
 twice None x xs ys e h = absurd cc
 twice (Some y) x xs ys e h = lt-leb (length ys) 1 (omega (arith, ap length e))

@@ -1,10 +1,11 @@
 -- The settings that the words of the command line give.
-use Rattle.std.specs.Prelude.{ℕ, Bool, ◌&&◌, List, [], ◌∷◌, Option, Some, None, is_some, filter, nat_le, length, if◌then◌else◌}
+use Rattle.std.specs.Prelude.{ℕ, ◌≤◌, Bool, ◌&&◌, List, [], ◌∷◌, Option, Some, None, is_some, filter, nat_le, length, if◌then◌else◌}
 use Rattle.std.specs.List.{list_all, filter_map}
 use Rattle.std.specs.Option.{option_and_then}
 use Rattle.tel_settings.specs.declared.fields.Stop.{Stop}
 use Rattle.tel_settings.specs.declared.fields.Stop.TheVariants.{Sat}
-use Rattle.tel_settings.specs.declared.fields.Input.TheVariants.{Files}
+use Rattle.tel_settings.specs.declared.fields.Input.{Input}
+use Rattle.tel_settings.specs.declared.fields.Input.TheVariants.{Files, Number}
 use Rattle.tel_settings.specs.declared.fields.Settings.{Settings}
 use Rattle.tel_settings.specs.declared.pieces.Piece.{Piece}
 use Rattle.tel_settings.specs.declared.pieces.Piece.TheVariants.{File, Imin, Imax, Istop}
@@ -73,3 +74,14 @@ settings_of words =
       input = Files (files words);
     })
     else None
+
+-- there are 1 to 16 files
+abbrev pub HasFiles : Input → Type 0
+HasFiles (Files names) = (1 ≤ length names) × (length names ≤ 16)
+HasFiles (Number number) = ⊥
+
+-- the settings of every line are within these limits
+pub record IsWithinLimits (settings : Settings) : Type 0 where
+  pub imin : settings.imin ≤ 1000
+  pub imax : settings.imax ≤ 1000
+  pub input : HasFiles settings.input

@@ -1,5 +1,5 @@
 ghost use Rattle.std.specs.Prelude.{◌≡◌, map, string_bytes, IfOk, IfErr};
-ghost use Rattle.tel_settings.specs.Command.{settings_of};
+ghost use Rattle.tel_settings.specs.Command.{settings_of, IsWithinLimits};
 
 use crate::collecting::Given;
 use crate::fields::{Settings, SettingsFault};
@@ -12,6 +12,7 @@ use std::alloc::Global;
 /// 16 file words: `-`, or a word that doesn't begin with `-`. Every other list of words is `Usage`.
 pub fn settings(alloc: Global, words: &[String]) -> Result<Settings, SettingsFault>
     ensures ok { IfOk result (λ settings. settings_of (map string_bytes words.now) ≡ Some settings) }
+    ensures limits { IfOk result (λ settings. IsWithinLimits settings) }
     ensures usage { IfErr result (λ fault. fault ≡ SettingsFault.Usage → settings_of (map string_bytes words.now) ≡ None) }
 {
     let mut given = Given::new(alloc);

@@ -6,6 +6,8 @@ mod command;
 mod fields;
 mod pieces;
 mod running;
+#[cfg(test)]
+mod tests;
 
 pub use command::settings;
 pub use fields::{Input, Settings, SettingsFault, Stop, Word};
