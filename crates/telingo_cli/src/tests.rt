@@ -234,106 +234,128 @@ fn words_and_reads(rt: HostRuntime) -> Result<(), Fail> {
     Ok(())
 }
 
-/// Two files, of which the second is empty in most rows.
+/// The answer to these words over two texts, under the names `one` and `two`.
+fn answer_over(alloc: Global, words: &[&str], one: &str, two: &str) -> Result<Answer, Fail> {
+    let mut texts = Vec::new(alloc);
+    for (name, text) in [("one", one), ("two", two)] {
+        texts.push((
+            String::from_str(alloc, name)?,
+            Vec::from_slice(alloc, text.as_bytes())?,
+        ))?;
+    }
+    let source = MemSource::new(texts, Vec::new(alloc));
+    let out = MemSink::new(alloc, 1024, 1024, Vec::new(alloc))?;
+    answer_to(alloc, words, source, out)
+}
+
+/// Where a run stops, and which programs are too large for it.
 #[test]
 fn lengths(rt: HostRuntime) -> Result<(), Fail> {
-    let alloc = rt.alloc();
-    let two =
+    let large = "error: large\n";
+    let a = "length 1\ntrace\nstate 0: a\nend complete 1\n";
+    let a_twice =
         "length 1\ntrace\nstate 0: a\nend complete 1\nlength 2\ntrace\nstate 0: a\nstate 1:\nend complete 1\n";
-    for (first, second, stop, imin, imax, want_status, want) in [
-        ("a.", "", "--istop=unsat", "--imin=0", "--imax=2", 10, two),
-        ("a.", "", "--istop=sat", "--imin=2", "--imax=2", 10, two),
+    let none = "length 1\nend complete 0\n";
+    let none_twice = "length 1\nend complete 0\nlength 2\nend complete 0\n";
+    for (words, text, want_status, want) in [
+        (["one", "--imax=2"].as_slice(), "a.", 10, a),
         (
-            "#program always.",
+            ["--istop=unsat", "--imax=2", "one"].as_slice(),
             "a.",
-            "--istop=unsat",
-            "--imin=0",
-            "--imax=2",
             10,
-            two,
+            a_twice,
         ),
         (
+            ["--imin=2", "one", "--imax=2"].as_slice(),
+            "a.",
+            10,
+            a_twice,
+        ),
+        (
+            ["--istop=unknown", "one", "--imax=2"].as_slice(),
+            "a.",
+            10,
+            a_twice,
+        ),
+        (
+            ["--istop=unsat", "--imin=2", "--imax=3", "one"].as_slice(),
+            ":- not a.",
+            20,
+            none_twice,
+        ),
+        (
+            ["--istop=unsat", "--imax=3", "one"].as_slice(),
+            ":- not a.",
+            20,
+            none,
+        ),
+        (["--imax=12", "one"].as_slice(), "a.", 10, a),
+        (["--imax=13", "one"].as_slice(), "a.", 69, large),
+        (["--imin=2", "one"].as_slice(), "a.", 69, large),
+        (["--imax=0", "one"].as_slice(), "a.", 20, ""),
+        (["one", "--imax=1"].as_slice(), ":- .", 20, none),
+    ] {
+        let (status, printed) = answer_over(rt.alloc(), words, text, "")?;
+        assert_eq!(rt; status, want_status, "at {words:?} and {text}");
+        assert_eq!(rt;
+            printed.as_slice(),
+            want.as_bytes(),
+            "at {words:?} and {text}"
+        );
+    }
+    Ok(())
+}
+
+/// Parts, primes and choices over two files, of which the second is empty in most rows.
+#[test]
+fn over_time(rt: HostRuntime) -> Result<(), Fail> {
+    for (stop, imax, one, two, want_status, want) in [
+        (
+            "--istop=unsat",
+            "--imax=2",
+            "#program always.",
+            "a.",
+            10,
+            "length 1\ntrace\nstate 0: a\nend complete 1\nlength 2\ntrace\nstate 0: a\nstate 1:\nend complete 1\n",
+        ),
+        (
+            "--istop=unsat",
+            "--imax=2",
             "#program always. a :- not b. b :- not a.",
             "",
-            "--istop=unsat",
-            "--imin=0",
-            "--imax=2",
             10,
             "length 1\ntrace\nstate 0: b\ntrace\nstate 0: a\nend complete 2\nlength 2\ntrace\nstate 0: b\nstate 1: b\ntrace\nstate 0: b\nstate 1: a\ntrace\nstate 0: a\nstate 1: b\ntrace\nstate 0: a\nstate 1: a\nend complete 4\n",
         ),
         (
+            "--istop=sat",
+            "--imax=2",
             "a. #program always. b' :- a.",
             "",
-            "--istop=sat",
-            "--imin=0",
-            "--imax=2",
             10,
             "length 1\nend complete 0\nlength 2\ntrace\nstate 0: a\nstate 1: b\nend complete 1\n",
         ),
         (
+            "--istop=sat",
+            "--imax=3",
             "a. #program always. {b'} :- a.",
             "#program dynamic. :- not 'a, b. #program final. :- not b.",
-            "--istop=sat",
-            "--imin=0",
-            "--imax=3",
             10,
             "length 1\nend complete 0\nlength 2\ntrace\nstate 0: a\nstate 1: b\nend complete 1\n",
         ),
         (
+            "--istop=sat",
+            "--imax=1",
             "{a}. {b}. :- a, b. :- a, not b. :- not a, b. :- not a, not b.",
             "",
-            "--istop=sat",
-            "--imin=0",
-            "--imax=1",
             20,
             "length 1\nend complete 0\n",
         ),
-        (
-            ":- not a.",
-            "",
-            "--istop=unsat",
-            "--imin=2",
-            "--imax=3",
-            20,
-            "length 1\nend complete 0\nlength 2\nend complete 0\n",
-        ),
-        (
-            "a.",
-            "",
-            "--istop=sat",
-            "--imin=0",
-            "--imax=13",
-            69,
-            "error: large\n",
-        ),
-        (
-            "a.",
-            "b.",
-            "--istop=sat",
-            "--imin=0",
-            "--imax=7",
-            69,
-            "error: large\n",
-        ),
-        ("a.", "", "--istop=sat", "--imin=0", "--imax=0", 20, ""),
+        ("--istop=sat", "--imax=7", "a.", "b.", 69, "error: large\n"),
     ] {
-        let mut texts = Vec::new(alloc);
-        for (name, text) in [("first", first), ("second", second)] {
-            texts.push((
-                String::from_str(alloc, name)?,
-                Vec::from_slice(alloc, text.as_bytes())?,
-            ))?;
-        }
-        let source = MemSource::new(texts, Vec::new(alloc));
-        let out = MemSink::new(alloc, 1024, 1024, Vec::new(alloc))?;
-        let words = [imin, "first", imax, stop, "second"];
-        let (status, printed) = answer_to(alloc, words.as_slice(), source, out)?;
-        assert_eq!(rt; status, want_status, "at {first} and {second}");
-        assert_eq!(rt;
-            printed.as_slice(),
-            want.as_bytes(),
-            "at {first} and {second}"
-        );
+        let words = [stop, "one", imax, "two"];
+        let (status, printed) = answer_over(rt.alloc(), words.as_slice(), one, two)?;
+        assert_eq!(rt; status, want_status, "at {one} and {two}");
+        assert_eq!(rt; printed.as_slice(), want.as_bytes(), "at {one} and {two}");
     }
     Ok(())
 }
