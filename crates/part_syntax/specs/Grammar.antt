@@ -1,97 +1,389 @@
--- The grammar: which tokens are a text, what its statements say, and the rules that they give.
-use Rattle.std.specs.Prelude.{◌≡◌, ◌⊎◌, ℕ, Bool, true, false, List, [], ◌∷◌, ◌++◌, length, codes}
-use Rattle.std.specs.List.{sum_by}
-use Rattle.tel_rule.specs.declared.rules.Rule.{Rule}
-use Rattle.tel_rule.specs.declared.rules.Part.{Part}
-use Rattle.tel_rule.specs.declared.rules.Part.TheVariants.{Initial, Dynamic, Always, Final}
-use Rattle.tel_rule.specs.declared.rules.PlainHead.{PlainHead}
-use Rattle.tel_rule.specs.declared.rules.PlainHead.TheVariants.{Normal, Choice, None}
-use Rattle.tel_rule.specs.declared.rules.PlainLiteral.{PlainLiteral}
-use Rattle.part_syntax.specs.declared.items.Item.{Item}
-use Rattle.part_syntax.specs.declared.items.Item.TheVariants.{Directive, Statement}
-use Rattle.part_syntax.specs.Tokens.{Token, Name, Not, Program, If, Comma, Stop, Open, Close, Prime, Spells}
+-- The grammar of statements, of the tokens of a text, and of the program of several texts. Everything is read with a number of
+-- levels that may be open at once, which is one more than the number that stands here.
+use Rattle.std.specs.Prelude.{◌≡◌, ℕ, suc, ◌+◌, Bool, true, false, List, [], ◌∷◌, ◌++◌, Option, Some, None, if◌then◌else◌, codes}
+use Rattle.std.specs.Option.{option_map}
+use Rattle.std.specs.Str.{bytes_eq}
+use Rattle.tel_base.specs.declared.places.Place.{Place}
+use Rattle.tel_term.specs.declared.exprs.Expr.{Expr}
+use Rattle.tel_rule.specs.declared.parts.Part.{Part}
+use Rattle.tel_rule.specs.declared.parts.Part.TheVariants as parts
+use Rattle.tel_rule.specs.declared.formulas.Atom.{Atom}
+use Rattle.tel_rule.specs.declared.formulas.Formula.{Formula}
+use Rattle.tel_rule.specs.declared.statements.Head.{Head}
+use Rattle.tel_rule.specs.declared.statements.Head.TheVariants as heads
+use Rattle.tel_rule.specs.declared.statements.Relation.{Relation}
+use Rattle.tel_rule.specs.declared.statements.Relation.TheVariants as relations
+use Rattle.tel_rule.specs.declared.statements.LitItem.{LitItem}
+use Rattle.tel_rule.specs.declared.statements.LitItem.TheVariants as items
+use Rattle.tel_rule.specs.declared.statements.Literal.{Literal}
+use Rattle.tel_rule.specs.declared.statements.Arg.{Arg}
+use Rattle.tel_rule.specs.declared.statements.Arg.TheVariants as args
+use Rattle.tel_rule.specs.declared.statements.Fact.{Fact}
+use Rattle.tel_rule.specs.declared.statements.Signature.{Signature}
+use Rattle.tel_rule.specs.declared.statements.Kind.{Kind}
+use Rattle.tel_rule.specs.declared.statements.Kind.TheVariants as kinds
+use Rattle.tel_rule.specs.declared.statements.Statement.{Statement}
+use Rattle.formula_syntax.specs.declared.marks.Mark.TheVariants as marks
+use Rattle.formula_syntax.specs.Points.{Word, Known, Point, at}
+use Rattle.formula_syntax.specs.Senses.{Sense, Name, Not, Number, Program, Const, Show, Sign, sense, number_of}
+use Rattle.formula_syntax.specs.Shapes.{Grammar, One, Then, Made, Either, Each, AtMost, Maybe, After}
+use Rattle.formula_syntax.specs.Grammar.{by_itself, plain, minus, opening, closing, comma, ampersand, name, further_arguments, behind_all, is_there, count, SignRead, IsSign, IsExpr, IsAtom, IsFormula}
 
--- a prime, where there is one
-abbrev pub prime : Bool → List Token
-prime true = Prime ∷ []
-prime false = []
+-- ---- words
 
--- `not`, where the literal isn't positive
-abbrev pub sign : Bool → List Token
-sign true = []
-sign false = Not ∷ []
+abbrev pub is_not : Sense → Bool
+is_not Not = true
+is_not said = false
 
--- atom = name [ "'" ], with the prime for the next instant
-abbrev pub IsAtom : List Token → List ℕ → Bool → Type 0
-IsAtom tokens name after = tokens ≡ Name name ∷ prime after
+abbrev pub not_word : Word → Option (Known → Unit {0} × Known)
+not_word word = plain (is_not (sense word))
 
--- head = atom | "{" atom "}"
-abbrev pub IsHead : List Token → PlainHead → Type 0
-IsHead tokens (Normal name after) = IsAtom tokens name after
-IsHead tokens (Choice name after) = (atom : List Token) × (tokens ≡ Open ∷ (atom ++ Close ∷ [])) × IsAtom atom name after
-IsHead tokens None = ⊥
+abbrev pub is_if : Sense → Bool
+is_if (Sign marks.If) = true
+is_if said = false
 
--- literal = [ "not" ] [ "'" ] name, with the prime for the instant before
-abbrev pub IsLiteral : List Token → PlainLiteral → Type 0
-IsLiteral tokens literal = tokens ≡ sign literal.positive ++ (prime literal.before ++ Name literal.name ∷ [])
+abbrev pub if_sign : Word → Option (Known → Unit {0} × Known)
+if_sign word = plain (is_if (sense word))
 
--- body = [ literal { "," literal } ]
-abbrev pub IsBody : List Token → List PlainLiteral → Type 0
-IsBody tokens [] = tokens ≡ []
-IsBody tokens (literal ∷ []) = IsLiteral tokens literal
-IsBody tokens (literal ∷ next ∷ more) =
-    (first rest : List Token) × (tokens ≡ first ++ Comma ∷ rest) × IsLiteral first literal × IsBody rest (next ∷ more)
+abbrev pub is_stop : Sense → Bool
+is_stop (Sign marks.Stop) = true
+is_stop said = false
 
--- fact = head "."
-abbrev pub IsFact : List Token → PlainHead → List PlainLiteral → Type 0
-IsFact tokens head body = (first : List Token) × (tokens ≡ first ++ Stop ∷ []) × IsHead first head × (body ≡ [])
+abbrev pub stop : Word → Option (Known → Unit {0} × Known)
+stop word = plain (is_stop (sense word))
 
--- [ head ]
-abbrev pub IsHeadOrNone : List Token → PlainHead → Type 0
-IsHeadOrNone tokens head = ((tokens ≡ []) × (head ≡ None)) ⊎ IsHead tokens head
+abbrev pub is_dots : Sense → Bool
+is_dots (Sign marks.Dots) = true
+is_dots said = false
 
--- rule = [ head ] ":-" body "."
-abbrev pub IsRule : List Token → PlainHead → List PlainLiteral → Type 0
-IsRule tokens head body =
-    (first second : List Token) × (tokens ≡ first ++ If ∷ (second ++ Stop ∷ [])) × IsHeadOrNone first head × IsBody second body
+abbrev pub dots : Word → Option (Known → Unit {0} × Known)
+dots word = plain (is_dots (sense word))
 
--- the name of a part
-abbrev pub part_name : Part → List ℕ
-part_name Initial = codes "initial"
-part_name Dynamic = codes "dynamic"
-part_name Always = codes "always"
-part_name Final = codes "final"
+abbrev pub is_semicolon : Sense → Bool
+is_semicolon (Sign marks.Semicolon) = true
+is_semicolon said = false
 
--- directive = "#program" part "."
-abbrev pub IsDirective : List Token → Part → Type 0
-IsDirective tokens part = tokens ≡ Program ∷ Name (part_name part) ∷ Stop ∷ []
+abbrev pub semicolon : Word → Option (Known → Unit {0} × Known)
+semicolon word = plain (is_semicolon (sense word))
 
--- item = directive | fact | rule
-abbrev pub IsItem : List Token → Item → Type 0
-IsItem tokens (Directive part) = IsDirective tokens part
-IsItem tokens (Statement head body) = IsFact tokens head body ⊎ IsRule tokens head body
+-- a comma or a semicolon
+abbrev pub is_separator : Sense → Bool
+is_separator (Sign marks.Comma) = true
+is_separator (Sign marks.Semicolon) = true
+is_separator said = false
+
+abbrev pub separator : Word → Option (Known → Unit {0} × Known)
+separator word = plain (is_separator (sense word))
+
+abbrev pub is_open_brace : Sense → Bool
+is_open_brace (Sign marks.OpenBrace) = true
+is_open_brace said = false
+
+abbrev pub open_brace : Word → Option (Known → Unit {0} × Known)
+open_brace word = plain (is_open_brace (sense word))
+
+abbrev pub is_close_brace : Sense → Bool
+is_close_brace (Sign marks.CloseBrace) = true
+is_close_brace said = false
+
+abbrev pub close_brace : Word → Option (Known → Unit {0} × Known)
+close_brace word = plain (is_close_brace (sense word))
+
+abbrev pub is_equal : Sense → Bool
+is_equal (Sign marks.Equal) = true
+is_equal said = false
+
+abbrev pub equal : Word → Option (Known → Unit {0} × Known)
+equal word = plain (is_equal (sense word))
+
+abbrev pub is_slash : Sense → Bool
+is_slash (Sign marks.Slash) = true
+is_slash said = false
+
+abbrev pub slash : Word → Option (Known → Unit {0} × Known)
+slash word = plain (is_slash (sense word))
+
+abbrev pub is_program : Sense → Bool
+is_program Program = true
+is_program said = false
+
+abbrev pub program_word : Word → Option (Known → Unit {0} × Known)
+program_word word = plain (is_program (sense word))
+
+abbrev pub is_const : Sense → Bool
+is_const Const = true
+is_const said = false
+
+abbrev pub const_word : Word → Option (Known → Unit {0} × Known)
+const_word word = plain (is_const (sense word))
+
+abbrev pub is_show : Sense → Bool
+is_show Show = true
+is_show said = false
+
+abbrev pub show_word : Word → Option (Known → Unit {0} × Known)
+show_word word = plain (is_show (sense word))
+
+abbrev pub is_tel : Sense → Bool
+is_tel (Name text) = bytes_eq text (codes "tel")
+is_tel said = false
+
+-- the name `tel`
+abbrev pub tel_word : Word → Option (Known → Unit {0} × Known)
+tel_word word = plain (is_tel (sense word))
+
+abbrev pub part_named : List ℕ → Option Part
+part_named text =
+    if bytes_eq text (codes "initial") then Some parts.Initial
+    else (if bytes_eq text (codes "dynamic") then Some parts.Dynamic
+    else (if bytes_eq text (codes "always") then Some parts.Always
+    else (if bytes_eq text (codes "final") then Some parts.Final else None)))
+
+abbrev pub part_of : Sense → Option Part
+part_of (Name text) = part_named text
+part_of said = None
+
+abbrev pub part : Word → Option (Known → Part × Known)
+part word = by_itself (part_of (sense word))
+
+abbrev pub arity_of : Sense → Option ℕ
+arity_of (Number text) = number_of text
+arity_of said = None
+
+abbrev pub arity : Word → Option (Known → ℕ × Known)
+arity word = by_itself (arity_of (sense word))
+
+abbrev pub relation_of : Sense → Option Relation
+relation_of (Sign marks.Equal) = Some relations.Equal
+relation_of (Sign marks.Unequal) = Some relations.Unequal
+relation_of (Sign marks.Less) = Some relations.Less
+relation_of (Sign marks.LessEqual) = Some relations.LessEqual
+relation_of (Sign marks.Greater) = Some relations.Greater
+relation_of (Sign marks.GreaterEqual) = Some relations.GreaterEqual
+relation_of said = None
+
+abbrev pub relation : Word → Option (Known → Relation × Known)
+relation word = by_itself (relation_of (sense word))
+
+-- ---- literals
+
+abbrev pub literal : ℕ → LitItem → Literal
+literal nots item = record { nots = nots; item = item }
+
+abbrev pub tel_of : Unit {0} × (Unit {0} × (Unit {0} × (Formula × Unit {0}))) → LitItem
+tel_of read = items.Tel read.1.1.1.0
+
+-- tel = "&" "tel" "{" formula "}"
+abbrev pub IsTel : ℕ → Grammar LitItem
+IsTel n = Made tel_of (Then (One ampersand) (Then (One tel_word) (Then (One open_brace) (Then (IsFormula (suc n)) (One close_brace)))))
+
+abbrev pub compare_of : Expr × (Relation × Expr) → LitItem
+compare_of read = items.Compare read.1.0 read.0 read.1.1
+
+-- comparison = expr ("=" | "!=" | "<" | "<=" | ">" | ">=") expr
+abbrev pub IsComparison : ℕ → Grammar LitItem
+IsComparison n = Made compare_of (Then (IsExpr (suc n)) (Then (One relation) (IsExpr (suc n))))
+
+abbrev pub IsAtomItem : ℕ → Grammar LitItem
+IsAtomItem n = Made items.Atom (IsAtom (suc n))
+
+abbrev pub negated_of : Unit {0} × (Option (Unit {0}) × LitItem) → Literal
+negated_of read = literal (1 + count read.1.0) read.1.1
+
+-- literal = [ "not" [ "not" ] ] ( tel | atom ) | comparison
+abbrev pub IsLiteral : ℕ → Grammar Literal
+IsLiteral n =
+    Either (Made negated_of (Then (One not_word) (Then (Maybe (One not_word)) (Either (IsTel n) (IsAtomItem n)))))
+    (Made (literal 0) (Either (IsTel n) (Either (IsAtomItem n) (IsComparison n))))
+
+abbrev pub chain_of : {A B : Type 0} → B × List (A × B) → List B
+chain_of read = read.0 ∷ behind_all read.1
+
+-- body = literal { ("," | ";") literal }
+abbrev pub IsBody : ℕ → Grammar (List Literal)
+IsBody n = Made chain_of (Then (IsLiteral n) (Each (Then (One separator) (IsLiteral n))))
+
+abbrev pub body_of : Unit {0} × (Option (List Literal) × Unit {0}) → List Literal
+body_of (sign, (Some body, end)) = body
+body_of (sign, (None, end)) = []
+
+-- tail = ":-" [ body ] "."
+abbrev pub IsTail : ℕ → Grammar (List Literal)
+IsTail n = Made body_of (Then (One if_sign) (Then (Maybe (IsBody n)) (One stop)))
+
+-- ---- facts
+
+abbrev pub arg_of : Expr × Option (Unit {0} × Expr) → Arg
+arg_of (first, None) = args.One first
+arg_of (first, Some last) = args.Range first last.1
+
+-- arg = expr [ ".." expr ]
+abbrev pub IsArg : ℕ → Grammar Arg
+IsArg n = Made arg_of (Then (IsExpr (suc n)) (Maybe (Then (One dots) (IsExpr (suc n)))))
+
+-- tuple = arg { "," arg }, with at most eight arguments
+abbrev pub IsTuple : ℕ → Grammar (List Arg)
+IsTuple n = Made chain_of (Then (IsArg n) (AtMost further_arguments (Then (One comma) (IsArg n))))
+
+abbrev pub tuples_of : Unit {0} × (List Arg × (List (Unit {0} × List Arg) × Unit {0})) → List (List Arg)
+tuples_of read = read.1.0 ∷ behind_all read.1.1.0
+
+-- "(" tuple { ";" tuple } ")"
+abbrev pub IsTuples : ℕ → Grammar (List (List Arg))
+IsTuples n = Made tuples_of (Then (One opening) (Then (IsTuple n) (Then (Each (Then (One semicolon) (IsTuple n))) (One closing))))
+
+abbrev pub tuples_or_one : Option (List (List Arg)) → List (List Arg)
+tuples_or_one None = [] ∷ []
+tuples_or_one (Some tuples) = tuples
+
+abbrev pub fact_of : SignRead × Option (List (List Arg)) → Fact
+fact_of (sign, tuples) = record {
+  negative = is_there sign.0;
+  before = count sign.1.0;
+  name = sign.1.1.0;
+  after = count sign.1.1.1;
+  tuples = tuples_or_one tuples;
+}
+
+-- facts = sign [ "(" tuple { ";" tuple } ")" ], which without brackets have one empty tuple
+abbrev pub IsFacts : ℕ → Grammar Fact
+IsFacts n = Made fact_of (Then IsSign (Maybe (IsTuples n)))
+
+-- ---- statements
+
+-- the expressions of a tuple without ranges
+abbrev pub plain_args : List Arg → Option (List Expr)
+plain_args [] = Some []
+plain_args (args.One first ∷ more) = option_map (λ rest. first ∷ rest) (plain_args more)
+plain_args (args.Range first last ∷ more) = None
+
+abbrev pub head_with : Fact → Option (List Expr) → Option Head
+head_with fact None = None
+head_with fact (Some read) = Some (heads.Normal (record { negative = fact.negative; before = fact.before; name = fact.name; after = fact.after; args = read }))
+
+abbrev pub head_at : Fact → List (List Arg) → Option Head
+head_at fact [] = None
+head_at fact (tuple ∷ []) = head_with fact (plain_args tuple)
+head_at fact (tuple ∷ next ∷ more) = None
+
+-- the head that facts are, if they are one atom: one tuple without ranges
+abbrev pub head_of : Fact → Option Head
+head_of fact = head_at fact fact.tuples
+
+-- What an item of a text is: the part of the statements behind it, or a statement.
+pub data Item : Type 0 where
+  InPart : Part → Item
+  Says : Kind → Item
+
+abbrev pub fact_item : Fact → Unit {0} → Item
+fact_item fact end = Says (kinds.Facts fact)
+
+abbrev pub rule_item : Head → List Literal → Item
+rule_item head body = Says (kinds.Rule head body)
+
+-- what stands behind facts: a stop, or the tail of a rule, where they are its head
+abbrev pub BehindFacts : ℕ → Fact → Option Head → Grammar Item
+BehindFacts n fact None = Made (fact_item fact) (One stop)
+BehindFacts n fact (Some head) = Either (Made (fact_item fact) (One stop)) (Made (rule_item head) (IsTail n))
+
+-- facts "." | atom tail
+abbrev pub IsFactOrRule : ℕ → Grammar Item
+IsFactOrRule n = After (IsFacts n) (λ fact. BehindFacts n fact (head_of fact))
+
+abbrev pub braced : Unit {0} × (Atom × Unit {0}) → Head
+braced read = heads.Choice read.1.0
+
+-- choice = "{" atom "}"
+abbrev pub IsChoice : ℕ → Grammar Head
+IsChoice n = Made braced (Then (One open_brace) (Then (IsAtom (suc n)) (One close_brace)))
+
+abbrev pub no_body : Unit {0} → List Literal
+no_body end = []
+
+abbrev pub choice_item : Head × List Literal → Item
+choice_item read = rule_item read.0 read.1
+
+-- choice "." | choice tail
+abbrev pub IsChoiceRule : ℕ → Grammar Item
+IsChoiceRule n = Made choice_item (Then (IsChoice n) (Either (Made no_body (One stop)) (IsTail n)))
+
+-- a constraint: the tail of a rule without a head
+abbrev pub IsConstraint : ℕ → Grammar Item
+IsConstraint n = Made (rule_item heads.None) (IsTail n)
+
+abbrev pub part_item : Unit {0} × (Part × Unit {0}) → Item
+part_item read = InPart read.1.0
+
+-- "#program" ("initial" | "dynamic" | "always" | "final") "."
+abbrev pub IsPartItem : Grammar Item
+IsPartItem = Made part_item (Then (One program_word) (Then (One part) (One stop)))
+
+abbrev pub const_item : Unit {0} × (List ℕ × (Unit {0} × (Expr × Unit {0}))) → Item
+const_item read = Says (kinds.Const read.1.0 read.1.1.1.0)
+
+-- "#const" name "=" expr "."
+abbrev pub IsConstItem : ℕ → Grammar Item
+IsConstItem n = Made const_item (Then (One const_word) (Then (One name) (Then (One equal) (Then (IsExpr (suc n)) (One stop)))))
+
+abbrev pub signature_of : Option (Unit {0}) × (List ℕ × (Unit {0} × ℕ)) → Signature
+signature_of read = record { negative = is_there read.0; name = read.1.0; arity = read.1.1.1 }
+
+-- signature = [ "-" ] name "/" number
+abbrev pub IsSignature : Grammar Signature
+IsSignature = Made signature_of (Then (Maybe (One minus)) (Then (One name) (Then (One slash) (One arity))))
+
+abbrev pub show_item : Unit {0} × (Option Signature × Unit {0}) → Item
+show_item read = Says (kinds.Show read.1.0)
+
+-- "#show" [ signature ] "."
+abbrev pub IsShowItem : Grammar Item
+IsShowItem = Made show_item (Then (One show_word) (Then (Maybe IsSignature) (One stop)))
+
+-- an item of a text
+abbrev pub IsItem : ℕ → Grammar Item
+IsItem n =
+    Either (IsFactOrRule n)
+    (Either (IsChoiceRule n)
+    (Either (IsConstraint n)
+    (Either IsPartItem
+    (Either (IsConstItem n) IsShowItem))))
+
+-- ---- texts
+
+-- an item with the place of its first token and its variables
+pub record Stated : Type 0 where
+  pub place : Place
+  pub vars : List (List ℕ)
+  pub item : Item
+
+-- what is known where a statement begins: the names and strings of the program so far, and no variable
+abbrev pub afresh : Known → Known
+afresh known = record known { vars = [] }
+
+-- An item read from a first word on, with variables of its own.
+pub record IsStated (n : ℕ) (from : Point) (stated : Stated) (to : Point) : Type 0 where
+  pub word : Word
+  pub behind : List Word
+  pub first : from.words ≡ word ∷ behind
+  pub reads : IsItem n (at (afresh from.known) from.words) stated.item to
+  pub place_is : stated.place ≡ word.place
+  pub vars_are : stated.vars ≡ to.known.vars
 
 -- text = { item }
-abbrev pub IsText : List Token → List Item → Type 0
-IsText tokens [] = tokens ≡ []
-IsText tokens (item ∷ items) = (first rest : List Token) × (tokens ≡ first ++ rest) × IsItem first item × IsText rest items
+abbrev pub IsText : ℕ → Grammar (List Stated)
+IsText n = Each (IsStated n)
 
--- the rules of items: statements are of this part, and behind a directive of the directive's
-abbrev pub rules_in : Part → List Item → List Rule
-rules_in part [] = []
-rules_in part (Directive next ∷ items) = rules_in next items
-rules_in part (Statement head body ∷ items) = record { part = part; head = head; body = body } ∷ rules_in part items
+-- the part of the statements behind an item
+abbrev pub part_behind : Part → Item → Part
+part_behind named (InPart next) = next
+part_behind named (Says kind) = named
 
--- the bytes of a text are tokens of items that give these rules, where the first ones are of the initial part
-abbrev pub Reads : List ℕ → List Rule → Type 0
-Reads text rules =
-    (tokens : List Token) × (items : List Item) × Spells text tokens × IsText tokens items × (rules ≡ rules_in Initial items)
+-- the statement that an item is, if it is one
+abbrev pub said_in : Part → Stated → Item → List Statement
+said_in named stated (InPart next) = []
+said_in named stated (Says kind) = record { place = stated.place; part = named; vars = stated.vars; kind = kind } ∷ []
 
--- the rules are those of the texts, one text after another
-abbrev pub IsProgram : List (List ℕ) → List Rule → Type 0
-IsProgram [] rules = rules ≡ []
-IsProgram (text ∷ texts) rules = (first rest : List Rule) × (rules ≡ first ++ rest) × Reads text first × IsProgram texts rest
-
--- how many bytes the texts have
-abbrev pub total_bytes : List (List ℕ) → ℕ
-total_bytes texts = sum_by (λ (text : List ℕ). length text) texts
+-- the statements of items: each is of the part that was named last before it
+abbrev pub statements_in : Part → List Stated → List Statement
+statements_in named [] = []
+statements_in named (stated ∷ more) = said_in named stated stated.item ++ statements_in (part_behind named stated.item) more

@@ -1,3 +1,5 @@
-pub mod Tokens
+pub mod Given
 pub mod Grammar
+pub mod Outcomes
+pub mod Programs
 pub mod Reading

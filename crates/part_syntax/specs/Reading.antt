@@ -1,213 +1,154 @@
--- Reading, by recursion on the bytes and on the tokens. Only private functions are held to it; the public
--- contracts speak of the grammar.
-use Rattle.std.specs.Prelude.{codes, ℕ, ◌+◌, Bool, true, false, map, List, [], ◌∷◌, ◌++◌, Option, Some, None, option_and_then, ◌==◌, if◌then◌else◌}
-use Rattle.std.specs.List.{prefix_len}
-use Rattle.std.specs.Option.{option_map}
-use Rattle.std.specs.Str.{bytes_eq}
-use Rattle.tel_rule.specs.declared.rules.Rule.{Rule}
-use Rattle.tel_rule.specs.declared.rules.Part.{Part}
-use Rattle.tel_rule.specs.declared.rules.Part.TheVariants as parts
-use Rattle.tel_rule.specs.declared.rules.PlainHead.{PlainHead}
-use Rattle.tel_rule.specs.declared.rules.PlainHead.TheVariants as heads
-use Rattle.tel_rule.specs.declared.rules.PlainLiteral.{PlainLiteral}
-use Rattle.part_syntax.specs.declared.items.Item.{Item}
-use Rattle.part_syntax.specs.declared.items.Item.TheVariants.{Directive, Statement}
-use Rattle.part_syntax.specs.declared.lexer.Lexeme.{Lexeme}
-use Rattle.part_syntax.specs.declared.lexer.Lexeme.TheVariants as lexemes
-use Rattle.part_syntax.specs.Tokens.{Token, Name, Not, Program, If, Comma, Stop, Open, Close, Prime, is_white, is_name_byte, is_name}
-use Rattle.part_syntax.specs.Grammar.{part_name, rules_in}
+-- Reading statements and texts, by the level. Only private functions are held to it; the public contracts speak of the
+-- grammar.
+use Rattle.std.specs.Prelude.{ℕ, suc, Bool, true, false, not, List, [], ◌∷◌, Option, Some, None, if◌then◌else◌}
+use Rattle.tel_base.specs.declared.places.Place.{Place}
+use Rattle.tel_rule.specs.declared.statements.Head.{Head}
+use Rattle.tel_rule.specs.declared.statements.Head.TheVariants as heads
+use Rattle.tel_rule.specs.declared.statements.LitItem.{LitItem}
+use Rattle.tel_rule.specs.declared.statements.LitItem.TheVariants as items
+use Rattle.tel_rule.specs.declared.statements.Literal.{Literal}
+use Rattle.tel_rule.specs.declared.statements.Arg.{Arg}
+use Rattle.tel_rule.specs.declared.statements.Fact.{Fact}
+use Rattle.tel_rule.specs.declared.statements.Signature.{Signature}
+use Rattle.formula_syntax.specs.Points.{Word, at, begins}
+use Rattle.formula_syntax.specs.Steps.{Read, Got, Stuck, Reader, made, one, both, either, at_most, each, maybe, after, passes, or_also}
+use Rattle.formula_syntax.specs.Grammar.{minus, opening, closing, comma, prime, ampersand, name, leaf, product_op, sum_op, further_arguments}
+use Rattle.formula_syntax.specs.Reading.{read_sign, read_expr, read_atom, read_formula, starts_atom, opens_value}
+use Rattle.part_syntax.specs.Grammar.{not_word, if_sign, stop, dots, semicolon, separator, open_brace, close_brace, equal, slash, program_word, const_word, show_word, tel_word, part, arity, relation, literal, tel_of, compare_of, negated_of, chain_of, body_of, arg_of, tuples_of, fact_of, head_of, Item, fact_item, rule_item, braced, no_body, choice_item, part_item, const_item, signature_of, show_item, Stated, afresh}
 
--- a token of the code, without where its bytes lie
-abbrev pub token_of : Lexeme → Token
-token_of (lexemes.Name name) = Name name.now
-token_of lexemes.Not = Not
-token_of lexemes.Program = Program
-token_of lexemes.If = If
-token_of lexemes.Comma = Comma
-token_of lexemes.Stop = Stop
-token_of lexemes.Open = Open
-token_of lexemes.Close = Close
-token_of lexemes.Prime = Prime
+-- ---- literals
 
-abbrev pub tokens_of : List Lexeme → List Token
-tokens_of lexemes = map token_of lexemes
+abbrev pub read_tel : ℕ → Reader LitItem
+read_tel n = made tel_of (both (one ampersand) (both (one tel_word) (both (one open_brace) (both (read_formula (suc n)) (one close_brace)))))
 
--- one more in front
-abbrev pub with_first : {X : Type 0} → X → Option (List X) → Option (List X)
-with_first first read = option_map (λ more. first ∷ more) read
+abbrev pub read_comparison : ℕ → Reader LitItem
+read_comparison n = made compare_of (both (read_expr (suc n)) (both (one relation) (read_expr (suc n))))
 
--- one more in front, where there is one
-abbrev pub with_next : {X : Type 0} → Option X → Option (List X) → Option (List X)
-with_next None read = None
-with_next (Some first) read = with_first first read
+abbrev pub read_atom_item : ℕ → Reader LitItem
+read_atom_item n = made items.Atom (read_atom (suc n))
 
--- what was read before, and what is still read
-abbrev pub with_front : {X : Type 0} → List X → Option (List X) → Option (List X)
-with_front front read = option_map (λ more. front ++ more) read
+-- the words that go on with an expression or a comparison
+abbrev pub goes_on : Word → Bool
+goes_on = or_also (passes product_op) (or_also (passes sum_op) (passes relation))
 
--- ---- tokens
+-- whether words behind a `-` are an expression and no atom
+abbrev pub compares_behind : List Word → Bool
+compares_behind [] = true
+compares_behind (word ∷ words) = if passes name word then begins goes_on words else not (passes prime word)
 
--- the token of a whole word
-abbrev pub word_token : List ℕ → Option Token
-word_token word =
-    if bytes_eq word (codes "not") then Some Not
-    else (if bytes_eq word (codes "#program") then Some Program
-    else (if is_name word then Some (Name word) else None))
+-- whether words that are an atom or a comparison are a comparison
+unfoldable pub compares : List Word → Bool
+compares [] = false
+compares (word ∷ words) =
+    if passes minus word then compares_behind words
+    else (if passes name word then begins goes_on words else not (passes prime word))
 
--- how many bytes of a word stand at the front: letters, digits and `_`, which `#` may come before
-abbrev pub word_len : List ℕ → ℕ
-word_len [] = 0
-word_len (byte ∷ bytes) = if byte == 35 then prefix_len is_name_byte bytes + 1 else prefix_len is_name_byte (byte ∷ bytes)
+abbrev pub read_plain : ℕ → Reader LitItem
+read_plain n = λ from. if compares from.words then read_comparison n from else read_atom_item n from
 
--- the token that is this byte
-abbrev pub mark_of : ℕ → Option Token
-mark_of byte =
-    if byte == 46 then Some Stop
-    else (if byte == 44 then Some Comma
-    else (if byte == 123 then Some Open
-    else (if byte == 125 then Some Close
-    else (if byte == 39 then Some Prime else None))))
+abbrev pub read_item_of : ℕ → Reader LitItem
+read_item_of n = either (passes ampersand) (read_tel n) (read_atom_item n)
 
--- the word ends, and then come these tokens
-unfoldable pub close : List ℕ → Option (List Token) → Option (List Token)
-close [] read = read
-close (first ∷ more) read = with_next (word_token (first ∷ more)) read
+abbrev pub read_negated : ℕ → Reader Literal
+read_negated n = made negated_of (both (one not_word) (both (maybe (passes not_word) (one not_word)) (read_item_of n)))
 
--- what was begun: a word, which is empty where nothing was, or the first byte of `:-`
-pub data Begun : Type 0 where
-  Word : List ℕ → Begun
-  Colon : Begun
+abbrev pub read_literal : ℕ → Reader Literal
+read_literal n = either (passes not_word) (read_negated n) (made (literal 0) (either (passes ampersand) (read_tel n) (read_plain n)))
 
--- the tokens of what was begun and the bytes
-unfoldable pub lex_in : Begun → List ℕ → Option (List Token)
-lex_in (Word word) [] = close word (Some [])
-lex_in Colon [] = None
-lex_in (Word word) (byte ∷ bytes) =
-    if is_name_byte byte then lex_in (Word (word ++ byte ∷ [])) bytes
-    else close word (if is_white byte then lex_in (Word []) bytes
-    else (if byte == 35 then lex_in (Word (35 ∷ [])) bytes
-    else (if byte == 58 then lex_in Colon bytes else with_next (mark_of byte) (lex_in (Word []) bytes))))
-lex_in Colon (byte ∷ bytes) = if byte == 45 then with_first If (lex_in (Word []) bytes) else None
+abbrev pub read_body : ℕ → Reader (List Literal)
+read_body n = made chain_of (both (read_literal n) (each (passes separator) (both (one separator) (read_literal n))))
 
--- the tokens of the word so far and the bytes
-abbrev pub lex_from : List ℕ → List ℕ → Option (List Token)
-lex_from word bytes = lex_in (Word word) bytes
+-- the words that a value, an atom or a comparison, and a literal begin with
+abbrev pub starts_value : Word → Bool
+starts_value = or_also (passes leaf) opens_value
 
--- the tokens of the bytes
-abbrev pub lex : List ℕ → Option (List Token)
-lex bytes = lex_from [] bytes
+abbrev pub starts_plain : Word → Bool
+starts_plain = or_also starts_atom starts_value
 
--- ---- bodies
+abbrev pub starts_literal : Word → Bool
+starts_literal = or_also (passes not_word) (or_also (passes ampersand) starts_plain)
 
--- a literal with its sign, whether it looks at the instant before, and its name
-abbrev pub plain : Bool → Bool → List ℕ → PlainLiteral
-plain positive before name = record { positive = positive; before = before; name = name }
+abbrev pub read_tail : ℕ → Reader (List Literal)
+read_tail n = made body_of (both (one if_sign) (both (maybe starts_literal (read_body n)) (one stop)))
 
--- what was read of a body: a literal comes next, or the rest of one after `not` or after a prime, or one has ended
-pub data Place : Type 0 where
-  Start : Place
-  Negated : Place
-  Primed : Bool → Place
-  Ended : Place
+-- ---- facts
 
--- the literals of the rest of a body
-unfoldable pub literals_in : Place → List Token → Option (List PlainLiteral)
-literals_in Start (Name name ∷ tokens) = with_first (plain true false name) (literals_in Ended tokens)
-literals_in Start (Not ∷ tokens) = literals_in Negated tokens
-literals_in Start (Prime ∷ tokens) = literals_in (Primed true) tokens
-literals_in Negated (Name name ∷ tokens) = with_first (plain false false name) (literals_in Ended tokens)
-literals_in Negated (Prime ∷ tokens) = literals_in (Primed false) tokens
-literals_in (Primed positive) (Name name ∷ tokens) = with_first (plain positive true name) (literals_in Ended tokens)
-literals_in Ended [] = Some []
-literals_in Ended (Comma ∷ tokens) = literals_in Start tokens
-literals_in place tokens = None
+abbrev pub read_arg : ℕ → Reader Arg
+read_arg n = made arg_of (both (read_expr (suc n)) (maybe (passes dots) (both (one dots) (read_expr (suc n)))))
 
--- the literals of a body
-abbrev pub body_of : List Token → Option (List PlainLiteral)
-body_of [] = Some []
-body_of (token ∷ tokens) = literals_in Start (token ∷ tokens)
+abbrev pub read_tuple : ℕ → Reader (List Arg)
+read_tuple n = made chain_of (both (read_arg n) (at_most further_arguments (passes comma) (both (one comma) (read_arg n))))
 
--- ---- statements, by their tokens before the stop
+abbrev pub read_tuples : ℕ → Reader (List (List Arg))
+read_tuples n = made tuples_of (both (one opening) (both (read_tuple n) (both (each (passes semicolon) (both (one semicolon) (read_tuple n))) (one closing))))
 
--- what stands behind a head: nothing, or `:-` and a body
-abbrev pub tail_of : PlainHead → List Token → Option Item
-tail_of head [] = Some (Statement head [])
-tail_of head (If ∷ body) = option_map (Statement head) (body_of body)
-tail_of head tokens = None
+abbrev pub read_facts : ℕ → Reader Fact
+read_facts n = made fact_of (both read_sign (maybe (passes opening) (read_tuples n)))
 
--- what stands behind the name of a head that has no braces
-abbrev pub after_name : List ℕ → List Token → Option Item
-after_name name (Prime ∷ tokens) = tail_of (heads.Normal name true) tokens
-after_name name tokens = tail_of (heads.Normal name false) tokens
+-- ---- statements
 
--- what stands behind the brace that begins a head
-abbrev pub after_brace : List Token → Option Item
-after_brace (Name name ∷ Close ∷ tokens) = tail_of (heads.Choice name false) tokens
-after_brace (Name name ∷ Prime ∷ Close ∷ tokens) = tail_of (heads.Choice name true) tokens
-after_brace tokens = None
+abbrev pub read_behind : ℕ → Fact → Option Head → Reader Item
+read_behind n fact None = made (fact_item fact) (one stop)
+read_behind n fact (Some head) = either (passes stop) (made (fact_item fact) (one stop)) (made (rule_item head) (read_tail n))
 
--- the part of this name
-abbrev pub part_of : List ℕ → Option Part
-part_of name =
-    if bytes_eq name (part_name parts.Initial) then Some parts.Initial
-    else (if bytes_eq name (part_name parts.Dynamic) then Some parts.Dynamic
-    else (if bytes_eq name (part_name parts.Always) then Some parts.Always
-    else (if bytes_eq name (part_name parts.Final) then Some parts.Final else None)))
+abbrev pub read_fact_or_rule : ℕ → Reader Item
+read_fact_or_rule n = after (read_facts n) (λ fact. read_behind n fact (head_of fact))
 
--- what stands behind `#program`
-abbrev pub directive_of : List Token → Option Item
-directive_of (Name name ∷ []) = option_map Directive (part_of name)
-directive_of tokens = None
+abbrev pub read_choice : ℕ → Reader Head
+read_choice n = made braced (both (one open_brace) (both (read_atom (suc n)) (one close_brace)))
 
--- the item of these tokens, which stand before a stop
-abbrev pub item_of : List Token → Option Item
-item_of (Program ∷ tokens) = directive_of tokens
-item_of (If ∷ body) = option_map (Statement heads.None) (body_of body)
-item_of (Name name ∷ tokens) = after_name name tokens
-item_of (Open ∷ tokens) = after_brace tokens
-item_of tokens = None
+abbrev pub read_choice_rule : ℕ → Reader Item
+read_choice_rule n = made choice_item (both (read_choice n) (either (passes stop) (made no_body (one stop)) (read_tail n)))
+
+abbrev pub read_constraint : ℕ → Reader Item
+read_constraint n = made (rule_item heads.None) (read_tail n)
+
+abbrev pub read_part_item : Reader Item
+read_part_item = made part_item (both (one program_word) (both (one part) (one stop)))
+
+abbrev pub read_const_item : ℕ → Reader Item
+read_const_item n = made const_item (both (one const_word) (both (one name) (both (one equal) (both (read_expr (suc n)) (one stop)))))
+
+abbrev pub starts_signature : Word → Bool
+starts_signature = or_also (passes minus) (passes name)
+
+abbrev pub read_signature : Reader Signature
+read_signature = made signature_of (both (maybe (passes minus) (one minus)) (both (one name) (both (one slash) (one arity))))
+
+abbrev pub read_show_item : Reader Item
+read_show_item = made show_item (both (one show_word) (both (maybe starts_signature read_signature) (one stop)))
+
+abbrev pub read_item : ℕ → Reader Item
+read_item n =
+    either starts_atom (read_fact_or_rule n)
+    (either (passes open_brace) (read_choice_rule n)
+    (either (passes if_sign) (read_constraint n)
+    (either (passes program_word) read_part_item
+    (either (passes const_word) (read_const_item n) read_show_item))))
+
+abbrev pub starts_item : Word → Bool
+starts_item =
+    or_also starts_atom
+    (or_also (passes open_brace)
+    (or_also (passes if_sign)
+    (or_also (passes program_word)
+    (or_also (passes const_word) (passes show_word)))))
 
 -- ---- texts
 
--- whether a token goes on with a statement
-abbrev pub is_inner : Token → Bool
-is_inner Stop = false
-is_inner token = true
+abbrev pub nowhere : Place
+nowhere = record { file = 0; line = 0; at = 0 }
 
-abbrev pub is_comma : Token → Bool
-is_comma Comma = true
-is_comma token = false
+abbrev pub place_at : List Word → Place
+place_at [] = nowhere
+place_at (word ∷ words) = word.place
 
--- nothing is left: no statement may be begun
-unfoldable pub ended : List Token → Option (List Item)
-ended [] = Some []
-ended (token ∷ front) = None
+abbrev pub noted : Place → Read Item → Read Stated
+noted place (Got item to) = Got (record { place = place; vars = to.known.vars; item = item }) to
+noted place (Stuck why rest) = Stuck why rest
 
--- the items of the statement so far and the tokens
-unfoldable pub items_from : List Token → List Token → Option (List Item)
-items_from front [] = ended front
-items_from front (token ∷ tokens) =
-    if is_inner token then items_from (front ++ token ∷ []) tokens
-    else with_next (item_of front) (items_from [] tokens)
+abbrev pub read_stated : ℕ → Reader Stated
+read_stated n = λ from. noted (place_at from.words) (read_item n (at (afresh from.known) from.words))
 
--- the items of the tokens
-abbrev pub parse : List Token → Option (List Item)
-parse tokens = items_from [] tokens
-
--- the part of the statements behind an item
-abbrev pub part_behind : Part → Item → Part
-part_behind part (Directive next) = next
-part_behind part (Statement head body) = part
-
--- the rules of the tokens, where the first ones are of this part
-abbrev pub rules_from : Part → List Token → Option (List Rule)
-rules_from part tokens = option_map (rules_in part) (parse tokens)
-
--- the rules of a text
-abbrev pub read_text : List ℕ → Option (List Rule)
-read_text text = option_and_then (rules_from parts.Initial) (lex text)
-
--- the rules of the texts
-abbrev pub read_texts : List (List ℕ) → Option (List Rule)
-read_texts [] = Some []
-read_texts (text ∷ texts) = option_and_then (λ first. with_front first (read_texts texts)) (read_text text)
+abbrev pub read_text : ℕ → Reader (List Stated)
+read_text n = each starts_item (read_stated n)

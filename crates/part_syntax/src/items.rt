@@ -1,143 +1,213 @@
-ghost use Rattle.std.specs.Prelude.{◌≡◌, Some, None, IfOk, IfErr};
-ghost use Rattle.std.specs.Option.{option_map};
-ghost use Rattle.tel_rule.specs.declared.rules.PlainHead.{PlainHead};
-ghost use Rattle.part_syntax.specs.declared.items.Item.TheVariants.{Statement};
-ghost use Rattle.part_syntax.specs.Reading.{tokens_of, body_of, tail_of, after_name, after_brace, part_of, directive_of, item_of};
+ghost use Rattle.std.specs.Prelude.{◌≡◌};
+ghost use Rattle.formula_syntax.specs.Points.{begins};
+ghost use Rattle.formula_syntax.specs.Reading as formulas;
+ghost use Rattle.formula_syntax.specs.Steps.{one, maybe, either, made, passes};
+ghost use Rattle.formula_syntax.specs.Given.{Reads};
+ghost use Rattle.part_syntax.specs.Grammar as grammar;
+ghost use Rattle.part_syntax.specs.Reading as readers;
+ghost use Rattle.part_syntax.specs.Given.{ReadsItem, IsFrugal};
 
-use crate::bodies::body;
-use crate::fault::ReadFault;
-use crate::lexer::Lexeme;
+use crate::facts::facts;
+use crate::heads::head_of;
+use crate::literals::{atom, expr, tail};
+use crate::words;
+use formula_syntax::{Mark, Reading, Sense, Stop};
 use sqlite_items::Items;
-use std::alloc::Global;
-use tel_base::Text;
-use tel_rule::{Part, PlainHead, PlainLiteral};
+use tel_rule::{Fact, Head, Kind, Literal, Part, Signature};
 
-/// What stands in a text up to a stop.
+/// An item of a text: the part of the statements behind it, or what a statement says.
 #[derive(Debug, Drop)]
 pub enum Item {
-    /// The part of the statements behind it, up to the next directive.
-    Directive(Part),
-    /// A fact, a rule or a constraint. The body of a fact is empty.
-    Statement {
-        head: PlainHead,
-        body: Items<PlainLiteral>,
-    },
+    InPart(Part),
+    Says(Kind),
 }
 
-/// The part of this name.
-fn part_of(name: &[u8]) -> Option<Part>
-    ensures { result ≡ part_of name.now }
+/// A part of the program begins.
+fn part_item(reading: &mut Reading) -> Result<Item, Stop>
+    ensures reads { ReadsItem (readers.read_part_item reading.old) result reading.new }
+    ensures room { IsFrugal reading.old reading.new }
 {
-    if name == b"initial".as_slice() {
-        Some(Part::Initial)
-    } else if name == b"dynamic".as_slice() {
-        Some(Part::Dynamic)
-    } else if name == b"always".as_slice() {
-        Some(Part::Always)
-    } else if name == b"final".as_slice() {
-        Some(Part::Final)
+    words::program_word(reading)?;
+    let part = words::part(reading)?;
+    words::full_stop(reading)?;
+    Ok(Item::InPart(part))
+}
+
+/// A predicate: a name, which a `-` may stand before, and a number of arguments.
+fn signature(reading: &mut Reading) -> Result<Signature, Stop>
+    ensures reads { Reads (readers.read_signature reading.old) result reading.new }
+    ensures room { IsFrugal reading.old reading.new }
+{
+    let negative = reading.minus();
+    let name = words::name(reading)?;
+    words::slash(reading)?;
+    let arity = words::arity(reading)?;
+    Ok(Signature {
+        negative,
+        name,
+        arity,
+    })
+}
+
+/// The predicate that is shown, if there is one.
+fn shown(reading: &mut Reading) -> Result<Option<Signature>, Stop>
+    ensures reads { Reads (maybe readers.starts_signature readers.read_signature reading.old) result reading.new }
+    ensures room { IsFrugal reading.old reading.new }
+{
+    if words::at_minus(reading) || words::at_name(reading) {
+        let signature = signature(reading)?;
+        Ok(Some(signature))
     } else {
-        None
+        Ok(None)
     }
 }
 
-/// The directive of the tokens behind `#program`.
-fn directive(lexemes: &[Lexeme]) -> Result<Item, ReadFault>
-    ensures ok { IfOk result (λ item. directive_of (tokens_of lexemes.now) ≡ Some item) }
-    ensures syntax { IfErr result (λ fault. fault ≡ ReadFault.Syntax → directive_of (tokens_of lexemes.now) ≡ None) }
+/// What is shown.
+fn show_item(reading: &mut Reading) -> Result<Item, Stop>
+    ensures reads { ReadsItem (readers.read_show_item reading.old) result reading.new }
+    ensures room { IsFrugal reading.old reading.new }
 {
-    let [Lexeme::Name(name)] = lexemes else {
-        return Err(ReadFault::Syntax);
-    };
-    match part_of(name) {
-        Some(part) => Ok(Item::Directive(part)),
-        None => Err(ReadFault::Syntax),
+    words::show_word(reading)?;
+    let shown = shown(reading)?;
+    words::full_stop(reading)?;
+    Ok(Item::Says(Kind::Show(shown)))
+}
+
+/// A constant and its expression.
+fn const_item(reading: &mut Reading, levels: u8) -> Result<Item, Stop>
+    ensures reads { ReadsItem (readers.read_const_item levels reading.old) result reading.new }
+    ensures room { IsFrugal reading.old reading.new }
+{
+    words::const_word(reading)?;
+    let name = words::name(reading)?;
+    words::equal(reading)?;
+    let value = expr(reading, levels)?;
+    words::full_stop(reading)?;
+    Ok(Item::Says(Kind::Const(name, value)))
+}
+
+/// What stands behind facts: a stop, or the tail of a rule, where they are its head.
+fn behind_facts(reading: &mut Reading, levels: u8, fact: Fact) -> Result<Item, Stop>
+    ensures reads { ReadsItem (readers.read_behind levels fact (grammar.head_of fact) reading.old) result reading.new }
+    ensures room { IsFrugal reading.old reading.new }
+{
+    if words::at_full_stop(reading) {
+        words::full_stop(reading)?;
+        return Ok(Item::Says(Kind::Facts(fact)));
+    }
+    match head_of(reading.alloc, fact)? {
+        Some(head) => {
+            let body = tail(reading, levels)?;
+            Ok(Item::Says(Kind::Rule(head, body)))
+        }
+        None => Err(Stop::Unexpected),
     }
 }
 
-/// The statement of this head and the tokens of its body.
-fn rule(alloc: Global, head: PlainHead, lexemes: &[Lexeme]) -> Result<Item, ReadFault>
-    ensures ok { IfOk result (λ item. option_map (Statement head) (body_of (tokens_of lexemes.now)) ≡ Some item) }
-    ensures syntax { IfErr result (λ fault. fault ≡ ReadFault.Syntax → body_of (tokens_of lexemes.now) ≡ None) }
+/// Facts, or a rule whose head is an atom.
+fn fact_or_rule(reading: &mut Reading, levels: u8) -> Result<Item, Stop>
+    ensures reads { ReadsItem (readers.read_fact_or_rule levels reading.old) result reading.new }
+    ensures room { IsFrugal reading.old reading.new }
 {
-    match body(alloc, lexemes) {
-        Ok(body) => Ok(Item::Statement { head, body }),
-        Err(fault) => Err(fault),
+    let fact = facts(reading, levels)?;
+    behind_facts(reading, levels, fact)
+}
+
+/// The head of a choice.
+fn choice(reading: &mut Reading, levels: u8) -> Result<Head, Stop>
+    ensures reads { Reads (readers.read_choice levels reading.old) result reading.new }
+    ensures room { IsFrugal reading.old reading.new }
+{
+    words::open_brace(reading)?;
+    let atom = atom(reading, levels)?;
+    words::close_brace(reading)?;
+    Ok(Head::Choice(atom))
+}
+
+/// What stands behind the head of a choice: a stop, or the tail of a rule.
+fn choice_body(reading: &mut Reading, levels: u8) -> Result<Items<Literal>, Stop>
+    ensures reads { Reads (either (passes grammar.stop) (made grammar.no_body (one grammar.stop)) (readers.read_tail levels) reading.old) result reading.new }
+    ensures room { IsFrugal reading.old reading.new }
+{
+    if words::at_full_stop(reading) {
+        words::full_stop(reading)?;
+        return Ok(Items::new(reading.alloc));
+    }
+    tail(reading, levels)
+}
+
+/// A choice.
+fn choice_rule(reading: &mut Reading, levels: u8) -> Result<Item, Stop>
+    ensures reads { ReadsItem (readers.read_choice_rule levels reading.old) result reading.new }
+    ensures room { IsFrugal reading.old reading.new }
+{
+    let head = choice(reading, levels)?;
+    let body = choice_body(reading, levels)?;
+    Ok(Item::Says(Kind::Rule(head, body)))
+}
+
+/// A constraint.
+fn constraint(reading: &mut Reading, levels: u8) -> Result<Item, Stop>
+    ensures reads { ReadsItem (readers.read_constraint levels reading.old) result reading.new }
+    ensures room { IsFrugal reading.old reading.new }
+{
+    let body = tail(reading, levels)?;
+    Ok(Item::Says(Kind::Rule(Head::None, body)))
+}
+
+/// Whether a token comes next that an atom begins with.
+fn at_atom(reading: &Reading) -> bool
+    ensures { result ≡ begins formulas.starts_atom reading.now.words }
+{
+    matches!(
+        reading.peek(),
+        Some(Sense::Name(_) | Sense::Sign(Mark::Minus | Mark::Prime))
+    )
+}
+
+/// A directive.
+fn directive(reading: &mut Reading, levels: u8) -> Result<Item, Stop>
+    ensures reads { ReadsItem (either (passes grammar.program_word) readers.read_part_item
+        (either (passes grammar.const_word) (readers.read_const_item levels) readers.read_show_item) reading.old) result reading.new }
+    ensures room { IsFrugal reading.old reading.new }
+{
+    if words::at_program_word(reading) {
+        part_item(reading)
+    } else if words::at_const_word(reading) {
+        const_item(reading, levels)
+    } else {
+        show_item(reading)
     }
 }
 
-/// The statement of this head and the tokens behind it.
-fn tail(alloc: Global, head: PlainHead, lexemes: &[Lexeme]) -> Result<Item, ReadFault>
-    ensures ok { IfOk result (λ item. tail_of head (tokens_of lexemes.now) ≡ Some item) }
-    ensures syntax { IfErr result (λ fault. fault ≡ ReadFault.Syntax → tail_of head (tokens_of lexemes.now) ≡ None) }
+/// An item of a text.
+pub fn next_item(reading: &mut Reading, levels: u8) -> Result<Item, Stop>
+    ensures reads { ReadsItem (readers.read_item levels reading.old) result reading.new }
+    ensures room { IsFrugal reading.old reading.new }
 {
-    match lexemes {
-        [] => Ok(Item::Statement {
-            head,
-            body: Items::new(alloc),
-        }),
-        [Lexeme::If, body @ ..] => rule(alloc, head, body),
-        _ => Err(ReadFault::Syntax),
+    if at_atom(reading) {
+        fact_or_rule(reading, levels)
+    } else if words::at_open_brace(reading) {
+        choice_rule(reading, levels)
+    } else if words::at_if_sign(reading) {
+        constraint(reading, levels)
+    } else {
+        directive(reading, levels)
     }
 }
 
-/// The statement whose head is this atom, by the tokens behind the head.
-fn normal(alloc: Global, name: &[u8], after: bool, lexemes: &[Lexeme]) -> Result<Item, ReadFault>
-    ensures ok { IfOk result (λ item. tail_of (PlainHead.Normal name.now after) (tokens_of lexemes.now) ≡ Some item) }
-    ensures syntax { IfErr result (λ fault. fault ≡ ReadFault.Syntax → tail_of (PlainHead.Normal name.now after) (tokens_of lexemes.now) ≡ None) }
+/// Whether a token comes next that an item begins with.
+pub fn at_item(reading: &Reading) -> bool
+    ensures { result ≡ begins readers.starts_item reading.now.words }
 {
-    match Text::from_slice(alloc, name) {
-        Ok(name) => tail(alloc, PlainHead::Normal { name, after }, lexemes),
-        Err(_) => Err(ReadFault::Memory),
-    }
-}
-
-/// The statement whose head is this atom in braces, by the tokens behind the head.
-fn choice(alloc: Global, name: &[u8], after: bool, lexemes: &[Lexeme]) -> Result<Item, ReadFault>
-    ensures ok { IfOk result (λ item. tail_of (PlainHead.Choice name.now after) (tokens_of lexemes.now) ≡ Some item) }
-    ensures syntax { IfErr result (λ fault. fault ≡ ReadFault.Syntax → tail_of (PlainHead.Choice name.now after) (tokens_of lexemes.now) ≡ None) }
-{
-    match Text::from_slice(alloc, name) {
-        Ok(name) => tail(alloc, PlainHead::Choice { name, after }, lexemes),
-        Err(_) => Err(ReadFault::Memory),
-    }
-}
-
-/// The statement that begins with this name, by the tokens behind it.
-fn named(alloc: Global, name: &[u8], lexemes: &[Lexeme]) -> Result<Item, ReadFault>
-    ensures ok { IfOk result (λ item. after_name name.now (tokens_of lexemes.now) ≡ Some item) }
-    ensures syntax { IfErr result (λ fault. fault ≡ ReadFault.Syntax → after_name name.now (tokens_of lexemes.now) ≡ None) }
-{
-    match lexemes {
-        [Lexeme::Prime, rest @ ..] => normal(alloc, name, true, rest),
-        rest => normal(alloc, name, false, rest),
-    }
-}
-
-/// The statement that begins with a brace, by the tokens behind it.
-fn braced(alloc: Global, lexemes: &[Lexeme]) -> Result<Item, ReadFault>
-    ensures ok { IfOk result (λ item. after_brace (tokens_of lexemes.now) ≡ Some item) }
-    ensures syntax { IfErr result (λ fault. fault ≡ ReadFault.Syntax → after_brace (tokens_of lexemes.now) ≡ None) }
-{
-    match lexemes {
-        [Lexeme::Name(name), Lexeme::Close, rest @ ..] => choice(alloc, name, false, rest),
-        [Lexeme::Name(name), Lexeme::Prime, Lexeme::Close, rest @ ..] => choice(
-            alloc, name, true, rest,
-        ),
-        _ => Err(ReadFault::Syntax),
-    }
-}
-
-/// The item of these tokens, which stand before a stop.
-pub fn item_of(alloc: Global, lexemes: &[Lexeme]) -> Result<Item, ReadFault>
-    ensures ok { IfOk result (λ item. item_of (tokens_of lexemes.now) ≡ Some item) }
-    ensures syntax { IfErr result (λ fault. fault ≡ ReadFault.Syntax → item_of (tokens_of lexemes.now) ≡ None) }
-{
-    match lexemes {
-        [Lexeme::Program, rest @ ..] => directive(rest),
-        [Lexeme::If, rest @ ..] => rule(alloc, PlainHead::None, rest),
-        [Lexeme::Name(name), rest @ ..] => named(alloc, name, rest),
-        [Lexeme::Open, rest @ ..] => braced(alloc, rest),
-        _ => Err(ReadFault::Syntax),
-    }
+    matches!(
+        reading.peek(),
+        Some(
+            Sense::Name(_)
+                | Sense::Sign(Mark::Minus | Mark::Prime | Mark::OpenBrace | Mark::If)
+                | Sense::Program
+                | Sense::Const
+                | Sense::Show
+        )
+    )
 }

@@ -1,15 +1,20 @@
-//! Reads the text of a propositional temporal logic program.
+//! The program of texts, read from their tokens.
 #![tactic(auto)]
 
-mod bodies;
+mod facts;
 mod fault;
+mod files;
+mod heads;
 mod items;
-mod lexer;
+mod laws;
+mod literals;
 mod reader;
-mod statements;
+mod texts;
+mod words;
 
 pub use fault::ReadFault;
-pub use reader::{one_program, read};
+pub use laws::one_program;
+pub use reader::read;
 
 #[cfg(test)]
 mod tests;

@@ -1,9 +1,10 @@
-//! What every crate of telingo stands on: texts, the two refusals that anything may give, and the
-//! outside, where texts come from and bytes go to.
+//! What every crate of telingo stands on: texts and places in them, the two refusals that anything
+//! may give, and the outside, where texts come from and bytes go to.
 #![tactic(auto)]
 
 mod edge;
 mod outside;
+mod places;
 mod sinks;
 mod sources;
 #[cfg(test)]
@@ -13,6 +14,7 @@ mod writing;
 
 pub use edge::{FileSource, OutSink};
 pub use outside::{Failed, Memory, Sink, Source};
+pub use places::Place;
 pub use sinks::{MemSink, NullSink};
 pub use sources::{MemSource, PlainSource};
 pub use texts::Text;

@@ -134,6 +134,8 @@ fn texts(rt: HostRuntime) -> Result<(), Fail> {
     let text = Text::from_slice(alloc, b"abc")?;
     assert_eq!(rt; text.as_slice(), b"abc".as_slice());
     assert_eq!(rt; (text.len(), text.is_empty()), (3, false));
+    assert_eq!(rt; text, Text::from_slice(alloc, b"abc")?);
+    assert_ne!(rt; text, Text::from_slice(alloc, b"abd")?);
     let empty = Text::from_vec(Vec::new(alloc));
     assert_eq!(rt; (empty.len(), empty.is_empty()), (0, true));
     Ok(())

@@ -1,2 +1,3 @@
 pub mod RisingLaws
-pub mod AtomSteps
+pub mod NameSteps
+pub mod NodeSteps

@@ -1,5 +1,5 @@
 -- Rising lists of names: one name more keeps the order, and membership tells such a list.
-use Rattle.std.proofs.Common.{◌≡◌, ℕ, ◌<◌, ◌≤◌, Bool, true, false, ◌&&◌, ◌||◌, List, [], ◌∷◌, length, IsTrue, refl, sym, ap, ap₂, ◌∙◌, subst, true≢false, inl, inr, arith}
+use Rattle.std.proofs.Common.{◌≡◌, ℕ, ◌<◌, ◌≤◌, Bool, true, false, ◌&&◌, ◌||◌, List, [], ◌∷◌, ◌++◌, length, IsTrue, refl, sym, ap, ap₂, ◌∙◌, subst, true≢false, inl, inr, arith}
 use Rattle.std.proofs.lemmas.Bool.{and_from, and_parts, cases_Bool, false_from_ne_true}
 use Rattle.std.proofs.lemmas.Cmp.{nat_list_cmp_total, tied_itself}
 use Rattle.std.proofs.lemmas.Map.Lookups.{exact_bytes}
@@ -15,7 +15,7 @@ use Rattle.tel_rule.specs.Rising.{name_cmp, name_lt, names_rise, with_name, with
 below_from_greater : (n z : List ℕ) → name_cmp n z ≡ Greater → IsTrue (name_lt z n)
 below_from_greater n z e = ap is_lt (nat_list_cmp_total.antisymm z n ∙ ap ordering_reverse e)
 
-less_from_below : (r : Ordering) → is_lt r ≡ true → r ≡ Less
+pub less_from_below : (r : Ordering) → is_lt r ≡ true → r ≡ Less
 less_from_below Less e = refl
 less_from_below Equal e = absurd (true≢false (sym e))
 less_from_below Greater e = absurd (true≢false (sym e))
@@ -189,3 +189,18 @@ length-with_names (n ∷ ns) xs = omega (arith, length-with_name n xs, length-wi
 pub some-with_names : (ns xs : List (List ℕ)) → 0 < length ns → 0 < length (with_names ns xs)
 some-with_names [] xs some = absurd (omega arith)
 some-with_names (n ∷ ns) xs some = omega (arith, some-with_name n xs, length-with_names ns (with_name n xs))
+
+-- a name isn't among those before it
+
+below_later : (x q : List ℕ) (front rest : List (List ℕ)) → IsTrue (names_rise (x ∷ (front ++ q ∷ rest))) → IsTrue (name_lt x q)
+below_later x q [] rest rise = (and_parts (name_lt x q) (names_rise (q ∷ rest)) rise).0
+below_later x q (y ∷ front) rest rise =
+    let parts = and_parts (name_lt x y) (names_rise (y ∷ (front ++ q ∷ rest))) rise in
+    below_trans x y q parts.0 (below_later y q front rest parts.1)
+
+pub new_after : (q : List ℕ) (front rest : List (List ℕ)) → IsTrue (names_rise (front ++ q ∷ rest)) → has_name front q ≡ false
+new_after q [] rest rise = refl
+new_after q (x ∷ front) rest rise =
+    let below = below_later x q front rest rise in
+    let other : bytes_eq q x ≡ false = false_from_ne_true (bytes_eq q x) (λ same. not_below_itself x (subst (λ (p : List ℕ). IsTrue (name_lt x p)) ((bytes_eq-Decides q x).0 same) below)) in
+    ap (λ (b : Bool). b || has_name front q) other ∙ new_after q front rest (rises-tail x (front ++ q ∷ rest) rise)

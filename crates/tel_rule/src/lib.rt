@@ -2,14 +2,22 @@
 //! have.
 #![tactic(auto)]
 
-mod atoms;
+mod formulas;
 mod ground;
 mod laws;
-mod rules;
+mod names;
+mod nodes;
+mod parts;
+mod statements;
 mod traces;
 
-pub use atoms::{insert_atom, place_of};
-pub use ground::{BodyItem, BodyLit, GroundAtom, GroundHead, Instance, Template};
+pub use formulas::{Atom, BinaryOp, ConstOp, Formula, ManyOp, UnaryOp};
+pub use ground::{BodyItem, BodyLit, GroundAtom, GroundHead, Instance, Show, Template};
 pub use laws::rising_sets;
-pub use rules::{Part, PlainHead, PlainLiteral, Program, Rule};
+pub use names::{insert_name, place_of};
+pub use nodes::{Kid, Node, NodeOp};
+pub use parts::Part;
+pub use statements::{
+    Arg, Fact, Head, Kind, LitItem, Literal, Program, Relation, Signature, Statement,
+};
 pub use traces::Trace;

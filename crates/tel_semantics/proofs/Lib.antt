@@ -7,3 +7,7 @@ pub mod Minimal
 pub mod ExactList
 pub mod Ordered
 pub mod TableRows
+pub mod Expansions
+pub mod Ranks
+pub mod NodeLaws
+pub mod InRange

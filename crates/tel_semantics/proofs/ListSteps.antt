@@ -1,8 +1,9 @@
 -- One more element of a list, as at a step of a loop.
-use Rattle.std.proofs.Common.{◌≡◌, ℕ, ◌+◌, ◌<◌, ◌≤◌, Bool, true, false, List, [], ◌∷◌, ◌++◌, length, get_or, take, replicate, sym, ap, ◌∙◌}
+use Rattle.std.proofs.Common.{◌≡◌, ℕ, ◌+◌, ◌<◌, ◌≤◌, Bool, true, false, List, [], ◌∷◌, ◌++◌, length, get_or, take, replicate, refl, sym, ap, ◌∙◌, ◌&&◌}
 use Rattle.std.specs.List.{flat_map, list_all}
 use Rattle.std.proofs.lemmas.List.{take_more, take_all, append-nil, replicate-append-replicate}
-use Rattle.std.proofs.lemmas.List.Folds.{list_all_at}
+use Rattle.std.proofs.lemmas.List.Folds.{list_all_at, list_all-append}
+use Rattle.std.proofs.lemmas.Bool.{and_from}
 use Rattle.std.proofs.lemmas.Grind.{flat_map-append}
 
 flat_map-take_more : {X A : Type 0} (f : X → List A) (xs : List X) (i : ℕ) (d : X) → i < length xs → flat_map f (take (i + 1) xs) ≡ flat_map f (take i xs) ++ f (get_or xs i d)
@@ -27,3 +28,10 @@ list_all_failed p xs i x l e h = list_all_at p xs i x l (ap p (sym e) ∙ h)
 -- the end of the loop
 pub list_all_passed : {X : Type 0} (p : X → Bool) (xs : List X) (i : ℕ) → length xs ≤ i → list_all p (take i xs) ≡ true → list_all p xs ≡ true
 list_all_passed p xs i l h = ap (λ ys. list_all p ys) (sym (take_all i xs l)) ∙ h
+
+-- one more element that passes
+pub list_all_more : {X : Type 0} (p : X → Bool) (xs : List X) (i : ℕ) (d : X) → i < length xs → list_all p (take i xs) ≡ true → p (get_or xs i d) ≡ true → list_all p (take (i + 1) xs) ≡ true
+list_all_more p xs i d l before here =
+    ap (λ ys. list_all p ys) (take_more xs i d l)
+    ∙ list_all-append p (take i xs) (get_or xs i d ∷ [])
+    ∙ and_from (list_all p (take i xs)) (p (get_or xs i d) && true) before (and_from (p (get_or xs i d)) true here refl)

@@ -1,8 +1,10 @@
 pub mod Print
 pub mod Traces
 pub mod Formula
+pub mod NodeFormula
 pub mod Satisfaction
 pub mod Table
+pub mod Walking
 pub mod Theory
 pub mod Lists
 pub mod Equilibrium

@@ -1,8 +1,10 @@
--- The theory of an instantiated program: each instance is the formula body -> head, demanded at the instants of its part.
-use Rattle.std.specs.Prelude.{ℕ, ◌+◌, Bool, true, not, ◌||◌, List, [], ◌∷◌, map, if◌then◌else◌, nat_lt, ◌==◌}
+-- The theory of an instantiated program: each instance is the formula body -> head, demanded at the instants of its part, and no
+-- atom holds together with its negative.
+use Rattle.std.specs.Prelude.{ℕ, ◌+◌, Bool, true, not, ◌||◌, List, [], ◌∷◌, ◌++◌, map, if◌then◌else◌, nat_lt, ◌==◌}
 use Rattle.std.specs.List.{list_all}
-use Rattle.tel_rule.specs.declared.rules.Part.{Part}
-use Rattle.tel_rule.specs.declared.rules.Part.TheVariants as parts
+use Rattle.tel_rule.specs.declared.parts.Part.{Part}
+use Rattle.tel_rule.specs.declared.parts.Part.TheVariants as parts
+use Rattle.tel_rule.specs.declared.nodes.Node.{Node}
 use Rattle.tel_rule.specs.declared.ground.Instance.{Instance}
 use Rattle.tel_rule.specs.declared.ground.GroundHead.{GroundHead}
 use Rattle.tel_rule.specs.declared.ground.GroundHead.TheVariants as heads
@@ -12,6 +14,7 @@ use Rattle.tel_rule.specs.declared.ground.BodyItem.TheVariants as items
 use Rattle.tel_rule.specs.Ground.{Ground}
 use Rattle.tel_semantics.specs.Traces.{Test, each_below}
 use Rattle.tel_semantics.specs.Formula.{Formula, True, False, Atom, And, Or, Arrow, Previous, Next, negation}
+use Rattle.tel_semantics.specs.NodeFormula.{node_formula}
 use Rattle.tel_semantics.specs.Satisfaction.{sat}
 
 -- a formula, and the part at whose instants it is demanded
@@ -19,18 +22,19 @@ pub record Demand : Type 0 where
   pub part : Part
   pub formula : Formula
 
--- an atom at the same instant, or one instant before
-abbrev pub item_formula : BodyItem → Formula
-item_formula (items.Atom atom) = Atom atom
-item_formula (items.Before atom) = Previous (Atom atom)
+-- an atom at the same instant, or one instant before, or what a node means
+abbrev pub item_formula : List Node → BodyItem → Formula
+item_formula nodes (items.Atom atom) = Atom atom
+item_formula nodes (items.Before atom) = Previous (Atom atom)
+item_formula nodes (items.Node node) = node_formula nodes node
 
-abbrev pub literal_formula : BodyLit → Formula
-literal_formula literal = if literal.positive then item_formula literal.item else negation (item_formula literal.item)
+abbrev pub literal_formula : List Node → BodyLit → Formula
+literal_formula nodes literal = if literal.positive then item_formula nodes literal.item else negation (item_formula nodes literal.item)
 
 -- the `and` of the literals of a body
-abbrev pub body_formula : List BodyLit → Formula
-body_formula [] = True
-body_formula (literal ∷ more) = And (literal_formula literal) (body_formula more)
+abbrev pub body_formula : List Node → List BodyLit → Formula
+body_formula nodes [] = True
+body_formula nodes (literal ∷ more) = And (literal_formula nodes literal) (body_formula nodes more)
 
 -- an atom at the same instant, or at the next one
 abbrev pub derived_formula : ℕ → Bool → Formula
@@ -43,15 +47,22 @@ head_formula (heads.Choice atom after) = Or (derived_formula atom after) (negati
 head_formula heads.None = False
 
 -- body -> head
-abbrev pub instance_formula : Instance → Formula
-instance_formula instance = Arrow (body_formula instance.body) (head_formula instance.head)
+abbrev pub instance_formula : List Node → Instance → Formula
+instance_formula nodes instance = Arrow (body_formula nodes instance.body) (head_formula instance.head)
 
-abbrev pub demand_of : Instance → Demand
-demand_of instance = record { part = instance.part; formula = instance_formula instance }
+abbrev pub demand_of : List Node → Instance → Demand
+demand_of nodes instance = record { part = instance.part; formula = instance_formula nodes instance }
 
--- the formulas of a program with their parts, in the order of its instances
+-- an atom and its negative: not both, at every instant
+abbrev pub pair_formula : ℕ × ℕ → Formula
+pair_formula pair = negation (And (Atom pair.0) (Atom pair.1))
+
+abbrev pub pair_demand : ℕ × ℕ → Demand
+pair_demand pair = record { part = parts.Always; formula = pair_formula pair }
+
+-- the formulas of a program with their parts: its instances in order, and its pairs
 abbrev pub theory : Ground → List Demand
-theory program = map demand_of program.instances
+theory program = map (demand_of program.nodes) program.instances ++ map pair_demand program.pairs
 
 -- whether a part demands its formulas at the instant k of a trace of length n
 abbrev pub is_demanded : Part → ℕ → ℕ → Bool

@@ -1,7 +1,7 @@
 //! Laws of the definitions: functions that do nothing, whose contracts are proved facts.
 
 ghost use Rattle.tel_semantics.specs.Table.{SatisfactionIsTable, OperatorsMeanTheirNames};
-ghost use Rattle.tel_semantics.specs.Laws.{LooksInRange, Persists, NegationIsThere, ModelsMeetAll, ListsEquilibria, ListRises};
+ghost use Rattle.tel_semantics.specs.Laws.{LooksInRange, Persists, NegationIsThere, NodesMeanOperators, TwoNotsAreANode, TwoNotsBeforeAreNodes, ModelsMeetAll, ListsEquilibria, ListRises};
 
 /// Satisfaction is the table of the published logic, row by row, with its "some" and "every" over
 /// all numbers.
@@ -9,10 +9,21 @@ pub fn table()
     ensures { SatisfactionIsTable }
 {}
 
-/// The abbreviations mean what they are called: final is the last instant, always after is every
+/// The operators of nodes mean what they are called: final is the last instant, always after is every
 /// instant from this one on, and so on.
 pub fn operators()
     ensures { OperatorsMeanTheirNames }
+{}
+
+/// The formula of a node is its operator over the formulas of its children.
+pub fn nodes()
+    ensures { NodesMeanOperators }
+{}
+
+/// A literal with two `not` means what it says where it is read as `not` of a node `~f`.
+pub fn two_nots()
+    ensures now { TwoNotsAreANode }
+    ensures before { TwoNotsBeforeAreNodes }
 {}
 
 /// Satisfaction looks only at instants below the length, and at the atoms of the formula.
@@ -31,7 +42,7 @@ pub fn negation_there()
 {}
 
 /// An HT-trace is a model of a program exactly where it satisfies each instance at each instant at
-/// which the instance's part demands it.
+/// which the instance's part demands it, and at no instant an atom together with its negative.
 pub fn models()
     ensures { ModelsMeetAll }
 {}

@@ -4,14 +4,18 @@
 
 mod candidates;
 mod ends;
+mod judging;
 mod laws;
 mod listing;
 mod satisfying;
 #[cfg(test)]
 mod tests;
+mod walking;
 
 pub use ends::How;
+pub use judging::holds;
 pub use laws::{
-    agreement, equilibria, models, negation_there, operators, persistence, rising_list, table,
+    agreement, equilibria, models, negation_there, nodes, operators, persistence, rising_list,
+    table, two_nots,
 };
 pub use listing::plain_list;

@@ -7,7 +7,7 @@ ghost use Rattle.tel_semantics.specs.Traces.{test_of, is_below, each_below};
 ghost use Rattle.tel_semantics.specs.Equilibrium.{is_minimal, tem, list_of};
 
 use crate::candidates::{State, all_traces_of, traces_below_of};
-use crate::satisfying::{HtTrace, is_true_at};
+use crate::walking::{HtTrace, World, is_true_at};
 use sqlite_items::Items;
 use std::alloc::Global;
 use tel_base::Memory;
@@ -55,10 +55,9 @@ fn is_minimal_in(
             length: n,
             here: smaller.as_slice(),
             there: trace,
+            world: World::Here,
         };
-        if pair.is_model_of(template.instances.as_slice())
-            && !has_all(smaller.as_slice(), trace, count, n)
-        {
+        if pair.is_model_of(template) && !has_all(smaller.as_slice(), trace, count, n) {
             return Ok(false);
         }
     }
@@ -79,8 +78,9 @@ fn is_equilibrium(
         length: n,
         here: trace,
         there: trace,
+        world: World::There,
     };
-    if pair.is_model_of(template.instances.as_slice()) {
+    if pair.is_model_of(template) {
         is_minimal_in(alloc, template, n, trace)
     } else {
         Ok(false)

@@ -1,22 +1,14 @@
-//! Whether an HT-trace satisfies an instance of a program.
+//! Whether an HT-trace satisfies the theory of a program.
 
-ghost use Rattle.std.specs.Prelude.{◌≡◌, ◌<◌, not, ◌||◌, map};
+ghost use Rattle.std.specs.Prelude.{◌≡◌, ◌<◌, not, ◌||◌, ◌&&◌, map, length, IsTrue};
+ghost use Rattle.std.specs.List.{list_all};
+ghost use Rattle.tel_rule.specs.Ground.{item_in_range, literal_in_range, instance_in_range};
 ghost use Rattle.tel_semantics.specs.Traces.{test_of};
-ghost use Rattle.tel_semantics.specs.Satisfaction.{sat};
-ghost use Rattle.tel_semantics.specs.Theory.{item_formula, literal_formula, body_formula, derived_formula, head_formula, instance_formula, demand_of, is_demanded, meets, is_model};
+ghost use Rattle.tel_semantics.specs.Theory.{item_formula, literal_formula, body_formula, derived_formula, head_formula, instance_formula, demand_of, pair_formula, pair_demand, theory, is_demanded, meets, is_model};
+ghost use Rattle.tel_semantics.specs.Walking.{seen, holds_in};
 
-use crate::candidates::State;
-use tel_rule::{BodyItem, BodyLit, GroundHead, Instance, Part};
-
-/// Whether the atom is true at the instant. Past the end of the trace no atom is.
-pub fn is_true_at(trace: &[State], k: usize, atom: u32) -> bool
-    ensures { result ≡ test_of trace.now k atom }
-{
-    match trace.get(k) {
-        Some(state) => state.as_slice().contains(&atom),
-        None => false,
-    }
-}
+use crate::walking::HtTrace;
+use tel_rule::{BodyItem, BodyLit, GroundHead, Instance, Part, Template};
 
 /// Whether a part demands its formulas at the instant `k`.
 fn is_demanded_at(part: Part, length: usize, k: usize) -> bool
@@ -31,56 +23,39 @@ fn is_demanded_at(part: Part, length: usize, k: usize) -> bool
     }
 }
 
-/// An HT-trace: the pair of the traces `here` and `there`, both of the length.
-#[derive(Clone, Copy)]
-pub struct HtTrace<'a> {
-    pub length: usize,
-    pub here: &'a [State],
-    pub there: &'a [State],
-}
-
 impl<'a> HtTrace<'a> {
-    /// The pair of `there` and itself.
-    fn total(&self) -> HtTrace<'a>
-        ensures length { result.length ≡ self.now.length }
-        ensures here { result.here.now ≡ self.now.there.now }
-        ensures there { result.there.now ≡ self.now.there.now }
-    {
-        HtTrace {
-            length: self.length,
-            here: self.there,
-            there: self.there,
-        }
-    }
-
-    fn item_holds(&self, item: BodyItem, k: usize) -> bool
-        ensures { result ≡ sat (item_formula item) self.now.length (test_of self.now.here.now)
-            (test_of self.now.there.now) k }
+    fn item_holds(&self, template: &Template, item: BodyItem, k: usize) -> bool
+        requires within { k < self.now.length }
+        requires in_range { IsTrue (item_in_range (length template.now.atoms) (length template.now.nodes) item) }
+        ensures { result ≡ holds_in self.now (item_formula template.now.nodes item) k }
     {
         match item {
-            BodyItem::Atom(atom) => is_true_at(self.here, k, atom),
-            BodyItem::Before(atom) => k > 0 && is_true_at(self.here, k - 1, atom),
+            BodyItem::Atom(atom) => self.has(atom, k),
+            BodyItem::Before(atom) => k > 0 && self.has(atom, k - 1),
+            BodyItem::Node(node) => self.node_holds(template, node, k),
         }
     }
 
-    fn literal_holds(&self, literal: BodyLit, k: usize) -> bool
-        ensures { result ≡ sat (literal_formula literal) self.now.length (test_of self.now.here.now)
-            (test_of self.now.there.now) k }
+    fn literal_holds(&self, template: &Template, literal: BodyLit, k: usize) -> bool
+        requires within { k < self.now.length }
+        requires in_range { IsTrue (literal_in_range (length template.now.atoms) (length template.now.nodes) literal) }
+        ensures { result ≡ holds_in self.now (literal_formula template.now.nodes literal) k }
     {
-        let holds = self.item_holds(literal.item, k);
+        let holds = self.item_holds(template, literal.item, k);
         if literal.positive {
             holds
         } else {
-            !holds && !self.total().item_holds(literal.item, k)
+            !holds && !self.total().item_holds(template, literal.item, k)
         }
     }
 
-    fn body_holds(&self, body: &[BodyLit], k: usize) -> bool
-        ensures { result ≡ sat (body_formula body.now) self.now.length (test_of self.now.here.now)
-            (test_of self.now.there.now) k }
+    fn body_holds(&self, template: &Template, body: &[BodyLit], k: usize) -> bool
+        requires within { k < self.now.length }
+        requires in_range { IsTrue (list_all (literal_in_range (length template.now.atoms) (length template.now.nodes)) body.now) }
+        ensures { result ≡ holds_in self.now (body_formula template.now.nodes body.now) k }
     {
         for literal in body {
-            if !self.literal_holds(*literal, k) {
+            if !self.literal_holds(template, *literal, k) {
                 return false;
             }
         }
@@ -89,21 +64,19 @@ impl<'a> HtTrace<'a> {
 
     fn derived_holds(&self, atom: u32, after: bool, k: usize) -> bool
         requires { k < self.now.length }
-        ensures { result ≡ sat (derived_formula atom after) self.now.length (test_of self.now.here.now)
-            (test_of self.now.there.now) k }
+        ensures { result ≡ holds_in self.now (derived_formula atom after) k }
     {
         let length = self.length;
         if after {
-            k + 1 < length && is_true_at(self.here, k + 1, atom)
+            k + 1 < length && self.has(atom, k + 1)
         } else {
-            is_true_at(self.here, k, atom)
+            self.has(atom, k)
         }
     }
 
     fn head_holds(&self, head: GroundHead, k: usize) -> bool
         requires { k < self.now.length }
-        ensures { result ≡ sat (head_formula head) self.now.length (test_of self.now.here.now)
-            (test_of self.now.there.now) k }
+        ensures { result ≡ holds_in self.now (head_formula head) k }
     {
         match head {
             GroundHead::Normal { atom, after } => self.derived_holds(atom, after, k),
@@ -114,43 +87,43 @@ impl<'a> HtTrace<'a> {
         }
     }
 
-    /// Whether the body fails or the head holds, in this pair alone.
-    fn follows_here(&self, instance: &Instance, k: usize) -> bool
-        requires { k < self.now.length }
-        ensures { result ≡ (not (sat (body_formula instance.now.body) self.now.length
-            (test_of self.now.here.now) (test_of self.now.there.now) k)
-            || sat (head_formula instance.now.head) self.now.length
-            (test_of self.now.here.now) (test_of self.now.there.now) k) }
+    /// Whether the body fails or the head holds, in this world alone.
+    fn follows_here(&self, template: &Template, instance: &Instance, k: usize) -> bool
+        requires within { k < self.now.length }
+        requires in_range { IsTrue (instance_in_range (length template.now.atoms) (length template.now.nodes) instance.now) }
+        ensures { result ≡ (not (holds_in self.now (body_formula template.now.nodes instance.now.body) k)
+            || holds_in self.now (head_formula instance.now.head) k) }
     {
-        !self.body_holds(instance.body.as_slice(), k) || self.head_holds(instance.head, k)
+        !self.body_holds(template, instance.body.as_slice(), k) || self.head_holds(instance.head, k)
     }
 
     /// Whether the pair satisfies the instance at the instant `k`.
-    fn instance_holds(&self, instance: &Instance, k: usize) -> bool
-        requires { k < self.now.length }
-        ensures { result ≡ sat (instance_formula instance.now) self.now.length
-            (test_of self.now.here.now) (test_of self.now.there.now) k }
+    fn instance_holds(&self, template: &Template, instance: &Instance, k: usize) -> bool
+        requires within { k < self.now.length }
+        requires in_range { IsTrue (instance_in_range (length template.now.atoms) (length template.now.nodes) instance.now) }
+        ensures { result ≡ holds_in self.now (instance_formula template.now.nodes instance.now) k }
     {
-        self.follows_here(instance, k) && self.total().follows_here(instance, k)
+        self.follows_here(template, instance, k) && self.total().follows_here(template, instance, k)
     }
 
     /// Whether the pair satisfies the instance at the instant `k`, if its part demands it there.
-    fn meets_at(&self, instance: &Instance, k: usize) -> bool
-        requires { k < self.now.length }
+    fn meets_at(&self, template: &Template, instance: &Instance, k: usize) -> bool
+        requires within { k < self.now.length }
+        requires in_range { IsTrue (instance_in_range (length template.now.atoms) (length template.now.nodes) instance.now) }
         ensures { result ≡ (not (is_demanded instance.now.part self.now.length k)
-            || sat (instance_formula instance.now) self.now.length
-            (test_of self.now.here.now) (test_of self.now.there.now) k) }
+            || holds_in self.now (instance_formula template.now.nodes instance.now) k) }
     {
-        !is_demanded_at(instance.part, self.length, k) || self.instance_holds(instance, k)
+        !is_demanded_at(instance.part, self.length, k) || self.instance_holds(template, instance, k)
     }
 
     /// Whether the pair satisfies the instance wherever it is demanded.
-    fn meets_everywhere(&self, instance: &Instance) -> bool
-        ensures { result ≡ meets self.now.length (test_of self.now.here.now)
-            (test_of self.now.there.now) (demand_of instance.now) }
+    fn meets_everywhere(&self, template: &Template, instance: &Instance) -> bool
+        requires { IsTrue (instance_in_range (length template.now.atoms) (length template.now.nodes) instance.now) }
+        ensures { result ≡ meets self.now.length (test_of (seen self.now.world self.now.here.now self.now.there.now))
+            (test_of self.now.there.now) (demand_of template.now.nodes instance.now) }
     {
         for k in 0..self.length {
-            if !self.meets_at(instance, k) {
+            if !self.meets_at(template, instance, k) {
                 return false;
             }
         }
@@ -158,15 +131,58 @@ impl<'a> HtTrace<'a> {
     }
 
     /// Whether the pair satisfies all the instances wherever they are demanded.
-    pub fn is_model_of(&self, instances: &[Instance]) -> bool
-        ensures { result ≡ is_model (map demand_of instances.now) self.now.length
-            (test_of self.now.here.now) (test_of self.now.there.now) }
+    fn meets_instances(&self, template: &Template) -> bool
+        ensures { result ≡ is_model (map (demand_of template.now.nodes) template.now.instances) self.now.length
+            (test_of (seen self.now.world self.now.here.now self.now.there.now)) (test_of self.now.there.now) }
     {
-        for instance in instances {
-            if !self.meets_everywhere(instance) {
+        for instance in template.instances.as_slice() {
+            if !self.meets_everywhere(template, instance) {
                 return false;
             }
         }
         true
+    }
+
+    /// Whether not both atoms are true at the instant, in this world and in the world `There`.
+    fn are_apart_at(&self, pair: (u32, u32), k: usize) -> bool
+        ensures { result ≡ holds_in self.now (pair_formula pair) k }
+    {
+        let total = self.total();
+        !(self.has(pair.0, k) && self.has(pair.1, k))
+            && !(total.has(pair.0, k) && total.has(pair.1, k))
+    }
+
+    /// Whether the two atoms are nowhere both true.
+    fn keeps_apart(&self, pair: (u32, u32)) -> bool
+        ensures { result ≡ meets self.now.length (test_of (seen self.now.world self.now.here.now self.now.there.now))
+            (test_of self.now.there.now) (pair_demand pair) }
+    {
+        for k in 0..self.length {
+            if !self.are_apart_at(pair, k) {
+                return false;
+            }
+        }
+        true
+    }
+
+    /// Whether nowhere an atom and its negative are true.
+    fn keeps_pairs(&self, pairs: &[(u32, u32)]) -> bool
+        ensures { result ≡ is_model (map pair_demand pairs.now) self.now.length
+            (test_of (seen self.now.world self.now.here.now self.now.there.now)) (test_of self.now.there.now) }
+    {
+        for pair in pairs {
+            if !self.keeps_apart(*pair) {
+                return false;
+            }
+        }
+        true
+    }
+
+    /// Whether the pair is a model of the program's theory.
+    pub fn is_model_of(&self, template: &Template) -> bool
+        ensures { result ≡ is_model (theory template.now) self.now.length
+            (test_of (seen self.now.world self.now.here.now self.now.there.now)) (test_of self.now.there.now) }
+    {
+        self.meets_instances(template) && self.keeps_pairs(template.pairs.as_slice())
     }
 }

@@ -45,7 +45,7 @@ impl Given {
         }
     }
 
-    // Adds a file.
+    /// Adds a file.
     fn add_file(&mut self, alloc: Global, name: &str) -> Result<(), SettingsFault>
         ensures ok { OnOk result (self.new ≡ record self.old { files = self.old.files ++ name.now ∷ [] }) }
         ensures few { OnOk result (length self.new.files ≤ 16) }

@@ -1,6 +1,12 @@
 pub mod Fronts
 pub mod Writing
+pub mod FormulaLayers
 pub mod Named
+pub mod Growing
+pub mod InRange
+pub mod Numbers
+pub mod Valued
+pub mod Said
 pub mod Grounded
 pub mod Verdicts
 pub mod TextSteps

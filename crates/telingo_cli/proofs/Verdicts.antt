@@ -1,43 +1,85 @@
 -- Texts have one verdict, and a status that tells of them is the verdict's.
-use Rattle.std.proofs.Common.{◌≡◌, ℕ, ◌<◌, ◌≤◌, ◌⊎◌, IsTrue, inl, inr, Bool, true, false, cond, refl, List, [], ◌∷◌, Option, sym, subst, nat_lt, arith}
+use Rattle.std.proofs.Common.{◌≡◌, ◌≢◌, ℕ, ◌<◌, ◌≤◌, ◌⊎◌, IsTrue, inl, inr, Bool, true, false, cond, refl, List, [], ◌∷◌, Option, Some, None, sym, subst, nat_lt, arith}
 use Rattle.std.specs.List.{list_any}
 use Rattle.std.proofs.lemmas.Bool.{false≢true, cases_lt}
+use Rattle.tel_base.specs.declared.places.Place.{Place}
 use Rattle.tel_base.specs.Bytes.{Appends}
 use Rattle.tel_base.specs.Counts.{Rose, Stands}
-use Rattle.tel_base.proofs.Told.{stands-not-rose}
-use Rattle.tel_rule.specs.declared.rules.Rule.{Rule}
+use Rattle.tel_base.proofs.Told.{stands-not-rose, front-of-nothing}
+use Rattle.tel_rule.specs.declared.statements.Program.{Program}
 use Rattle.tel_settings.specs.declared.fields.Settings.{Settings}
 use Rattle.tel_settings.specs.Run.{lengths_of}
-use Rattle.part_syntax.specs.Grammar.{IsProgram, total_bytes}
+use Rattle.part_syntax.specs.declared.fault.ReadFault.{ReadFault}
+use Rattle.part_syntax.specs.declared.fault.ReadFault.TheVariants as faults
+use Rattle.part_syntax.specs.Programs.{IsProgram, IsFirstFault, total_bytes}
 use Rattle.telingo_cli.specs.Reading.{largest_text}
-use Rattle.telingo_cli.specs.Naming.{template_of, most_atoms}
+use Rattle.telingo_cli.specs.Plain.{first_unbuilt}
+use Rattle.telingo_cli.specs.Naming.{most_atoms}
+use Rattle.telingo_cli.specs.Grounding.{template_of}
 use Rattle.telingo_cli.specs.Delivery.{Delivers}
-use Rattle.telingo_cli.specs.Verdict.{Verdict, Accepted, Syntax, Large, IsVerdict, places_of, count_of, status_of, output_of, large_line, syntax_line, TellsOfText, ComesOfText, is_among, Answers}
+use Rattle.telingo_cli.specs.Verdict.{Verdict, Accepted, Refused, Unbuilt, Large, SayPlain, IsVerdict, places_of, count_of, status_of, output_of, large_line, fault_line, unbuilt_line, TellsOfText, ComesOfText, is_among, Answers}
+use Rattle.telingo_cli.specs.Refusals.{DeliversFault}
+
+-- what is delivered for a program
+pub record DeliversProgram (D : ℕ → List ℕ → Type 0) (settings : Settings) (program : Program) : Type 0 where
+  pub accepted : first_unbuilt program.statements ≡ None → places_of settings program ≤ most_atoms → D (status_of settings (Accepted program)) (output_of settings (Accepted program))
+  pub unbuilt : (place : Place) → first_unbuilt program.statements ≡ Some place → D 65 (unbuilt_line place)
+  pub large : first_unbuilt program.statements ≡ None → most_atoms < places_of settings program → D 69 large_line
 
 -- what is delivered for texts that are a program, whatever their verdict is said to be
-pub program-delivers : (D : ℕ → List ℕ → Type 0) (settings : Settings) (texts : List (List ℕ)) (rules : List Rule) → total_bytes texts ≤ largest_text → IsProgram texts rules → ((other : List Rule) → IsProgram texts other → other ≡ rules) → (places_of settings rules ≤ most_atoms → D (status_of settings (Accepted rules)) (output_of settings (Accepted rules))) → (most_atoms < places_of settings rules → D 69 large_line) → (verdict : Verdict) → IsVerdict settings texts verdict → D (status_of settings verdict) (output_of settings verdict)
-program-delivers D settings texts rules small program only accepted large (Accepted other) v =
-    let same = sym (only other v.1) in
-    subst (λ (r : List Rule). D (status_of settings (Accepted r)) (output_of settings (Accepted r))) same
-    (accepted (subst (λ (r : List Rule). places_of settings r ≤ most_atoms) (sym same) v.2))
-program-delivers D settings texts rules small program only accepted large Syntax v = absurd (v.1 rules program)
-program-delivers D settings texts rules small program only accepted large Large (inl long) = absurd (omega arith)
-program-delivers D settings texts rules small program only accepted large Large (inr v) =
-    let same = sym (only v.1.0 v.1.1) in
-    large (subst (λ (r : List Rule). most_atoms < places_of settings r) (sym same) v.1.2)
+pub program-delivers : (D : ℕ → List ℕ → Type 0) (settings : Settings) (texts : List (List ℕ)) (program : Program) → total_bytes texts ≤ largest_text → ((other : Program) → IsProgram texts other → other ≡ program) → ((fault : ReadFault) → IsFirstFault texts fault → ⊥) → DeliversProgram D settings program → (verdict : Verdict) → IsVerdict settings texts verdict → D (status_of settings verdict) (output_of settings verdict)
+program-delivers D settings texts program small only sound delivers (Accepted other) v =
+    let same = only other v.1.reads in
+    subst (λ (p : Program). D (status_of settings (Accepted p)) (output_of settings (Accepted p))) (sym same)
+    (delivers.accepted (subst (λ (p : Program). first_unbuilt p.statements ≡ None) same v.1.plain) (subst (λ (p : Program). places_of settings p ≤ most_atoms) same v.2))
+program-delivers D settings texts program small only sound delivers (Refused fault) v = absurd (sound fault v.1)
+program-delivers D settings texts program small only sound delivers (Unbuilt place) v =
+    delivers.unbuilt place (subst (λ (p : Program). first_unbuilt p.statements ≡ Some place) (only v.1.program v.1.reads) v.1.first)
+program-delivers D settings texts program small only sound delivers Large (inl long) = absurd (omega arith)
+program-delivers D settings texts program small only sound delivers Large (inr v) =
+    let same = only v.1.0 v.1.1.reads in
+    delivers.large (subst (λ (p : Program). first_unbuilt p.statements ≡ None) same v.1.1.plain) (subst (λ (p : Program). most_atoms < places_of settings p) same v.1.2)
 
--- the same for texts that are no program
-pub no_program-delivers : (D : ℕ → List ℕ → Type 0) (settings : Settings) (texts : List (List ℕ)) → total_bytes texts ≤ largest_text → ((rules : List Rule) → IsProgram texts rules → ⊥) → D 65 syntax_line → (verdict : Verdict) → IsVerdict settings texts verdict → D (status_of settings verdict) (output_of settings verdict)
-no_program-delivers D settings texts small none delivered (Accepted rules) v = absurd (none rules v.1)
-no_program-delivers D settings texts small none delivered Syntax v = delivered
-no_program-delivers D settings texts small none delivered Large (inl long) = absurd (omega arith)
-no_program-delivers D settings texts small none delivered Large (inr v) = absurd (none v.1.0 v.1.1)
+-- the same for texts that are no program, whose first fault is this one
+pub refused-delivers : (D : ℕ → List ℕ → Type 0) (settings : Settings) (texts : List (List ℕ)) (fault : ReadFault) → total_bytes texts ≤ largest_text → ((other : ReadFault) → IsFirstFault texts other → other ≡ fault) → ((program : Program) → IsProgram texts program → ⊥) → D 65 (fault_line fault) → (verdict : Verdict) → IsVerdict settings texts verdict → D (status_of settings verdict) (output_of settings verdict)
+refused-delivers D settings texts fault small first none delivered (Accepted program) v = absurd (none program v.1.reads)
+refused-delivers D settings texts fault small first none delivered (Refused other) v =
+    subst (λ (f : ReadFault). D 65 (fault_line f)) (sym (first other v.1)) delivered
+refused-delivers D settings texts fault small first none delivered (Unbuilt place) v = absurd (none v.1.program v.1.reads)
+refused-delivers D settings texts fault small first none delivered Large (inl long) = absurd (omega arith)
+refused-delivers D settings texts fault small first none delivered Large (inr v) = absurd (none v.1.0 v.1.1.reads)
 
 -- and for texts that are too long
 pub long-delivers : (D : ℕ → List ℕ → Type 0) (settings : Settings) (texts : List (List ℕ)) → largest_text < total_bytes texts → D 69 large_line → (verdict : Verdict) → IsVerdict settings texts verdict → D (status_of settings verdict) (output_of settings verdict)
-long-delivers D settings texts long delivered (Accepted rules) v = absurd (omega (arith, v.0))
-long-delivers D settings texts long delivered Syntax v = absurd (omega (arith, v.0))
+long-delivers D settings texts long delivered (Accepted program) v = absurd (omega (arith, v.0))
+long-delivers D settings texts long delivered (Refused fault) v = absurd (omega (arith, v.0))
+long-delivers D settings texts long delivered (Unbuilt place) v = absurd (omega (arith, v.0))
 long-delivers D settings texts long delivered Large v = delivered
+
+-- what the reader says of a fault that isn't want of memory
+pub record IsFaultOf (texts : List (List ℕ)) (fault : ReadFault) : Type 0 where
+  pub is : IsFirstFault texts fault
+  pub first : (other : ReadFault) → IsFirstFault texts other → other ≡ fault
+  pub none : (program : Program) → IsProgram texts program → ⊥
+
+memory_cut : (settings : Settings) (verdict : Verdict) (code : ℕ) (old new : Option (List ℕ)) → code ≡ 71 → new ≡ old → Delivers code (status_of settings verdict) (output_of settings verdict) old new
+memory_cut settings verdict code old new is same = inr (inl is, front-of-nothing old new (output_of settings verdict) same)
+
+-- texts with a fault have it for their verdict, unless memory runs out
+pub fault-delivers : (settings : Settings) (texts : List (List ℕ)) (fault : ReadFault) (code : ℕ) (old new : Option (List ℕ)) → total_bytes texts ≤ largest_text → (fault ≢ faults.Memory → IsFaultOf texts fault) → DeliversFault fault code old new → (verdict : Verdict) → IsVerdict settings texts verdict → Delivers code (status_of settings verdict) (output_of settings verdict) old new
+fault-delivers settings texts faults.Memory code old new small of delivered verdict v = memory_cut settings verdict code old new delivered.0 delivered.1
+fault-delivers settings texts (faults.BadByte place) code old new small of delivered verdict v =
+    let is = of (λ e. cc) in
+    refused-delivers (λ status bytes. Delivers code status bytes old new) settings texts (faults.BadByte place) small is.first is.none delivered verdict v
+fault-delivers settings texts (faults.NumberRange place) code old new small of delivered verdict v =
+    let is = of (λ e. cc) in
+    refused-delivers (λ status bytes. Delivers code status bytes old new) settings texts (faults.NumberRange place) small is.first is.none delivered verdict v
+fault-delivers settings texts (faults.TooDeep place) code old new small of delivered verdict v =
+    let is = of (λ e. cc) in
+    refused-delivers (λ status bytes. Delivers code status bytes old new) settings texts (faults.TooDeep place) small is.first is.none delivered verdict v
+fault-delivers settings texts (faults.Syntax place) code old new small of delivered verdict v =
+    let is = of (λ e. cc) in
+    refused-delivers (λ status bytes. Delivers code status bytes old new) settings texts (faults.Syntax place) small is.first is.none delivered verdict v
 
 not_cut : (code : ℕ) → (code ≡ 71) ⊎ (code ≡ 74) → TellsOfText code → ⊥
 not_cut code (inl e) tells = false≢true (subst TellsOfText e tells)
@@ -48,12 +90,37 @@ pub delivered-answers : (settings : Settings) (texts : List (List ℕ)) (verdict
 delivered-answers settings texts verdict code old new is (inl whole) tells = (verdict, is, whole.0, whole.1)
 delivered-answers settings texts verdict code old new is (inr cut) tells = absurd (not_cut code cut.0 tells)
 
-pub program-answers : (settings : Settings) (texts : List (List ℕ)) (rules : List Rule) (code : ℕ) (old new : Option (List ℕ)) → total_bytes texts ≤ largest_text → IsProgram texts rules → (places_of settings rules ≤ most_atoms → Delivers code (status_of settings (Accepted rules)) (output_of settings (Accepted rules)) old new) → (most_atoms < places_of settings rules → Delivers code 69 large_line old new) → TellsOfText code → Answers settings texts code old new
-program-answers settings texts rules code old new small program accepted large tells =
-    elim (cases_lt most_atoms (places_of settings rules)) [
-      | inl many ↦ delivered-answers settings texts Large code old new (inr (small, (rules, program, many))) (large many) tells
-      | inr few ↦ delivered-answers settings texts (Accepted rules) code old new (small, program, few) (accepted few) tells
+-- the verdict of a program, and what is delivered for it
+program_has : (settings : Settings) (texts : List (List ℕ)) (program : Program) (code : ℕ) (old new : Option (List ℕ)) (first : Option Place) → first_unbuilt program.statements ≡ first → total_bytes texts ≤ largest_text → IsProgram texts program → DeliversProgram (λ status bytes. Delivers code status bytes old new) settings program → (verdict : Verdict) × IsVerdict settings texts verdict × Delivers code (status_of settings verdict) (output_of settings verdict) old new
+program_has settings texts program code old new (Some place) is small reads delivers =
+    (Unbuilt place, (small, record { program = program; reads = reads; first = is }), delivers.unbuilt place is)
+program_has settings texts program code old new None is small reads delivers =
+    let says : SayPlain texts program = record { reads = reads; plain = is } in
+    elim (cases_lt most_atoms (places_of settings program)) [
+      | inl many ↦ (Large, inr (small, (program, says, many)), delivers.large is many)
+      | inr few ↦ (Accepted program, (small, says, few), delivers.accepted is few)
     ]
+
+pub program-answers : (settings : Settings) (texts : List (List ℕ)) (program : Program) (code : ℕ) (old new : Option (List ℕ)) → total_bytes texts ≤ largest_text → IsProgram texts program → DeliversProgram (λ status bytes. Delivers code status bytes old new) settings program → TellsOfText code → Answers settings texts code old new
+program-answers settings texts program code old new small reads delivers tells =
+    let has = program_has settings texts program code old new (first_unbuilt program.statements) refl small reads delivers in
+    delivered-answers settings texts has.0 code old new has.1 has.2 tells
+
+-- the same of texts with a fault
+pub fault-answers : (settings : Settings) (texts : List (List ℕ)) (fault : ReadFault) (code : ℕ) (old new : Option (List ℕ)) → total_bytes texts ≤ largest_text → (fault ≢ faults.Memory → IsFaultOf texts fault) → DeliversFault fault code old new → TellsOfText code → Answers settings texts code old new
+fault-answers settings texts faults.Memory code old new small of delivered tells = absurd (not_cut code (inl delivered.0) tells)
+fault-answers settings texts (faults.BadByte place) code old new small of delivered tells =
+    let is = of (λ e. cc) in
+    delivered-answers settings texts (Refused (faults.BadByte place)) code old new (small, is.is) delivered tells
+fault-answers settings texts (faults.NumberRange place) code old new small of delivered tells =
+    let is = of (λ e. cc) in
+    delivered-answers settings texts (Refused (faults.NumberRange place)) code old new (small, is.is) delivered tells
+fault-answers settings texts (faults.TooDeep place) code old new small of delivered tells =
+    let is = of (λ e. cc) in
+    delivered-answers settings texts (Refused (faults.TooDeep place)) code old new (small, is.is) delivered tells
+fault-answers settings texts (faults.Syntax place) code old new small of delivered tells =
+    let is = of (λ e. cc) in
+    delivered-answers settings texts (Refused (faults.Syntax place)) code old new (small, is.is) delivered tells
 
 -- a run ends with 10 or 20
 run_kind : (P : ℕ → Type 0) (found : Bool) → P 10 → P 20 → P (cond found 10 20)
@@ -61,8 +128,9 @@ run_kind P true ten twenty = ten
 run_kind P false ten twenty = twenty
 
 status_kind : (settings : Settings) (verdict : Verdict) → ComesOfText (status_of settings verdict)
-status_kind settings (Accepted rules) = run_kind ComesOfText (list_any (λ n. nat_lt 0 (count_of (template_of rules) n)) (lengths_of settings (count_of (template_of rules)))) refl refl
-status_kind settings Syntax = refl
+status_kind settings (Accepted program) = run_kind ComesOfText (list_any (λ n. nat_lt 0 (count_of (template_of program.statements) n)) (lengths_of settings (count_of (template_of program.statements)))) refl refl
+status_kind settings (Refused fault) = refl
+status_kind settings (Unbuilt place) = refl
 status_kind settings Large = refl
 
 pub delivered-kind : (settings : Settings) (verdict : Verdict) (code : ℕ) (old new : Option (List ℕ)) → Delivers code (status_of settings verdict) (output_of settings verdict) old new → ComesOfText code
@@ -73,12 +141,17 @@ delivered-kind settings verdict code old new (inr cut) = cut_kind code cut.0
     cut_kind code (inl e) = subst ComesOfText (sym e) refl
     cut_kind code (inr e) = subst ComesOfText (sym e) refl
 
-pub program-kind : (settings : Settings) (rules : List Rule) (code : ℕ) (old new : Option (List ℕ)) → (places_of settings rules ≤ most_atoms → Delivers code (status_of settings (Accepted rules)) (output_of settings (Accepted rules)) old new) → (most_atoms < places_of settings rules → Delivers code 69 large_line old new) → ComesOfText code
-program-kind settings rules code old new accepted large =
-    elim (cases_lt most_atoms (places_of settings rules)) [
-      | inl many ↦ delivered-kind settings Large code old new (large many)
-      | inr few ↦ delivered-kind settings (Accepted rules) code old new (accepted few)
-    ]
+pub program-kind : (settings : Settings) (texts : List (List ℕ)) (program : Program) (code : ℕ) (old new : Option (List ℕ)) → total_bytes texts ≤ largest_text → IsProgram texts program → DeliversProgram (λ status bytes. Delivers code status bytes old new) settings program → ComesOfText code
+program-kind settings texts program code old new small reads delivers =
+    let has = program_has settings texts program code old new (first_unbuilt program.statements) refl small reads delivers in
+    delivered-kind settings has.0 code old new has.2
+
+pub fault-kind : (settings : Settings) (fault : ReadFault) (code : ℕ) (old new : Option (List ℕ)) → DeliversFault fault code old new → ComesOfText code
+fault-kind settings faults.Memory code old new delivered = delivered-kind settings Large code old new (memory_cut settings Large code old new delivered.0 delivered.1)
+fault-kind settings (faults.BadByte place) code old new delivered = delivered-kind settings (Refused (faults.BadByte place)) code old new delivered
+fault-kind settings (faults.NumberRange place) code old new delivered = delivered-kind settings (Refused (faults.NumberRange place)) code old new delivered
+fault-kind settings (faults.TooDeep place) code old new delivered = delivered-kind settings (Refused (faults.TooDeep place)) code old new delivered
+fault-kind settings (faults.Syntax place) code old new delivered = delivered-kind settings (Refused (faults.Syntax place)) code old new delivered
 
 pub kind-not_read : (code : ℕ) → ComesOfText code → code ≡ 66 → ⊥
 kind-not_read code kind e = false≢true (subst ComesOfText e kind)
@@ -87,11 +160,11 @@ pub kind-not_usage : (code : ℕ) → ComesOfText code → code ≡ 64 → ⊥
 kind-not_usage code kind e = false≢true (subst ComesOfText e kind)
 
 -- accepted texts are answered by their status, where no write failed and there was memory
-pub accepted-complete : (settings : Settings) (rules : List Rule) (code : ℕ) (old new : Option (List ℕ)) (before now : ℕ) → Delivers code (status_of settings (Accepted rules)) (output_of settings (Accepted rules)) old new → (code ≡ 74 → Rose before now) → Stands before now → IsTrue (is_among (10 ∷ 20 ∷ 71 ∷ []) code)
-accepted-complete settings rules code old new before now (inl whole) rose stands =
+pub accepted-complete : (settings : Settings) (program : Program) (code : ℕ) (old new : Option (List ℕ)) (before now : ℕ) → Delivers code (status_of settings (Accepted program)) (output_of settings (Accepted program)) old new → (code ≡ 74 → Rose before now) → Stands before now → IsTrue (is_among (10 ∷ 20 ∷ 71 ∷ []) code)
+accepted-complete settings program code old new before now (inl whole) rose stands =
     subst (λ (n : ℕ). IsTrue (is_among (10 ∷ 20 ∷ 71 ∷ []) n)) (sym whole.0)
-    (run_kind (λ (n : ℕ). IsTrue (is_among (10 ∷ 20 ∷ 71 ∷ []) n)) (list_any (λ n. nat_lt 0 (count_of (template_of rules) n)) (lengths_of settings (count_of (template_of rules)))) refl refl)
-accepted-complete settings rules code old new before now (inr cut) rose stands = elim cut.0 [
+    (run_kind (λ (n : ℕ). IsTrue (is_among (10 ∷ 20 ∷ 71 ∷ []) n)) (list_any (λ n. nat_lt 0 (count_of (template_of program.statements) n)) (lengths_of settings (count_of (template_of program.statements)))) refl refl)
+accepted-complete settings program code old new before now (inr cut) rose stands = elim cut.0 [
   | inl e ↦ subst (λ (n : ℕ). IsTrue (is_among (10 ∷ 20 ∷ 71 ∷ []) n)) (sym e) refl
   | inr e ↦ absurd (stands-not-rose before now stands (rose e))
 ]

@@ -1,73 +1,64 @@
--- How a program's names become the numbers of its atoms, and the program its template.
-use Rattle.std.specs.Prelude.{ℕ, ◌+◌, List, [], ◌∷◌, ◌++◌, map, unwrap_or, if◌then◌else◌}
+-- The names of a program, and the numbers of its atoms.
+use Rattle.std.specs.Prelude.{ℕ, List, [], ◌∷◌, ◌++◌, unwrap_or}
 use Rattle.std.specs.List.{flat_map, position}
 use Rattle.std.specs.Str.{bytes_eq}
-use Rattle.tel_rule.specs.declared.rules.Rule.{Rule}
-use Rattle.tel_rule.specs.declared.rules.PlainHead.{PlainHead}
-use Rattle.tel_rule.specs.declared.rules.PlainHead.TheVariants as plain
-use Rattle.tel_rule.specs.declared.rules.PlainLiteral.{PlainLiteral}
-use Rattle.tel_rule.specs.declared.ground.GroundAtom.{GroundAtom}
-use Rattle.tel_rule.specs.declared.ground.Instance.{Instance}
-use Rattle.tel_rule.specs.declared.ground.GroundHead.{GroundHead}
-use Rattle.tel_rule.specs.declared.ground.GroundHead.TheVariants as ground
-use Rattle.tel_rule.specs.declared.ground.BodyLit.{BodyLit}
-use Rattle.tel_rule.specs.declared.ground.BodyItem.{BodyItem}
-use Rattle.tel_rule.specs.declared.ground.BodyItem.TheVariants as items
-use Rattle.tel_rule.specs.Ground.{Ground}
+use Rattle.tel_rule.specs.declared.formulas.Atom.{Atom}
+use Rattle.tel_rule.specs.declared.formulas.Formula.{Formula}
+use Rattle.tel_rule.specs.declared.statements.LitItem.{LitItem}
+use Rattle.tel_rule.specs.declared.statements.LitItem.TheVariants as items
+use Rattle.tel_rule.specs.declared.statements.Literal.{Literal}
+use Rattle.tel_rule.specs.declared.statements.Head.{Head}
+use Rattle.tel_rule.specs.declared.statements.Head.TheVariants as heads
+use Rattle.tel_rule.specs.declared.statements.Kind.{Kind}
+use Rattle.tel_rule.specs.declared.statements.Kind.TheVariants as kinds
+use Rattle.tel_rule.specs.declared.statements.Statement.{Statement}
 use Rattle.tel_rule.specs.Rising.{rising_set}
+use Rattle.telingo_cli.specs.FormulaValues.{formula_value}
 
-abbrev pub head_names : PlainHead → List (List ℕ)
-head_names (plain.Normal name after) = name ∷ []
-head_names (plain.Choice name after) = name ∷ []
-head_names plain.None = []
+-- the name of an atom
+abbrev pub atom_names : Atom → List (List ℕ)
+atom_names atom = atom.name ∷ []
 
-abbrev pub literal_name : PlainLiteral → List ℕ
-literal_name literal = literal.name
+abbrev pub joined : List (List (List ℕ)) → List (List ℕ)
+joined lists = flat_map (λ list. list) lists
 
--- the names that stand in a rule, from left to right
-abbrev pub rule_names : Rule → List (List ℕ)
-rule_names rule = head_names rule.head ++ map literal_name rule.body
+-- the names that stand in a formula, from left to right
+abbrev pub formula_names : Formula → List (List ℕ)
+formula_names formula = formula_value atom_names (λ op below. joined below) formula
+
+abbrev pub item_names : LitItem → List (List ℕ)
+item_names (items.Atom atom) = atom_names atom
+item_names (items.Tel formula) = formula_names formula
+item_names (items.Compare relation left right) = []
+
+abbrev pub literal_names : Literal → List (List ℕ)
+literal_names literal = item_names literal.item
+
+abbrev pub head_names : Head → List (List ℕ)
+head_names (heads.Normal atom) = atom_names atom
+head_names (heads.Choice atom) = atom_names atom
+head_names heads.None = []
+
+abbrev pub kind_names : Kind → List (List ℕ)
+kind_names (kinds.Rule head body) = head_names head ++ flat_map literal_names body
+kind_names (kinds.Facts fact) = fact.name ∷ []
+kind_names (kinds.Const name value) = []
+kind_names (kinds.Show shown) = []
+
+abbrev pub statement_names : Statement → List (List ℕ)
+statement_names statement = kind_names statement.kind
 
 -- the names that stand in a program
-abbrev pub names_of : List Rule → List (List ℕ)
-names_of rules = flat_map rule_names rules
+abbrev pub names_of : List Statement → List (List ℕ)
+names_of statements = flat_map statement_names statements
 
 -- the names of a program's atoms: each name once, in the order of their bytes
-abbrev pub atoms_of : List Rule → List (List ℕ)
-atoms_of rules = rising_set (names_of rules)
+abbrev pub atoms_of : List Statement → List (List ℕ)
+atoms_of statements = rising_set (names_of statements)
 
 -- the number of the atom with this name, its place among them
 abbrev pub number_of : List (List ℕ) → List ℕ → ℕ
 number_of names name = unwrap_or (position (bytes_eq name) names) 0
-
-abbrev pub ground_head : List (List ℕ) → PlainHead → GroundHead
-ground_head names (plain.Normal name after) = ground.Normal (number_of names name) after
-ground_head names (plain.Choice name after) = ground.Choice (number_of names name) after
-ground_head names plain.None = ground.None
-
-abbrev pub ground_item : List (List ℕ) → PlainLiteral → BodyItem
-ground_item names literal = if literal.before then items.Before (number_of names literal.name) else items.Atom (number_of names literal.name)
-
-abbrev pub ground_literal : List (List ℕ) → PlainLiteral → BodyLit
-ground_literal names literal = record { positive = literal.positive; item = ground_item names literal }
-
--- the one instance of a rule, which is the statement with this number
-abbrev pub ground_rule : List (List ℕ) → ℕ → Rule → Instance
-ground_rule names number rule =
-    record { statement = number; part = rule.part; head = ground_head names rule.head; body = map (ground_literal names) rule.body }
-
-abbrev pub ground_rules : List (List ℕ) → ℕ → List Rule → List Instance
-ground_rules names number [] = []
-ground_rules names number (rule ∷ more) = ground_rule names number rule ∷ ground_rules names (number + 1) more
-
-abbrev pub named_atom : List ℕ → GroundAtom
-named_atom name = record { name = name }
-
--- the program over the numbers of its atoms
-abbrev pub template_of : List Rule → Ground
-template_of rules =
-    let names = atoms_of rules in
-    record { atoms = map named_atom names; instances = ground_rules names 0 rules }
 
 -- the most atoms that a program may have
 abbrev pub most_atoms : ℕ

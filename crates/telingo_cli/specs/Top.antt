@@ -41,15 +41,17 @@ abbrev pub FailsWith : (ℕ → Type 0) → Settings → (List ℕ → Option (L
 FailsWith Says settings told failed before now =
     (name : List ℕ) × FailsAt (files_of settings) told failed before now name × Says (first_place (files_of settings) name)
 
--- the words are a line of the command, a read of one of its files failed, and the line of that was added
+-- the words are a line of the command, and a read of one of its files failed
+abbrev pub WordsFail : (ℕ → Type 0) → List (List ℕ) → (List ℕ → Option (List ℕ)) → Option (List ℕ) → ℕ → ℕ → Type 0
+WordsFail Says words told failed before now = (settings : Settings) × (settings_of words ≡ Some settings) × FailsWith Says settings told failed before now
+
+-- and the line of that was added
 abbrev pub FailedRead : List (List ℕ) → (List ℕ → Option (List ℕ)) → Option (List ℕ) → ℕ → ℕ → Option (List ℕ) → Option (List ℕ) → Type 0
-FailedRead words told failed before now old new =
-    (settings : Settings) × (settings_of words ≡ Some settings) × FailsWith (λ place. Appends old new (read_line place)) settings told failed before now
+FailedRead words told failed before now old new = WordsFail (λ place. Appends old new (read_line place)) words told failed before now
 
 -- the same, delivered: the call may have been cut short
 abbrev pub DeliversFailedRead : List (List ℕ) → (List ℕ → Option (List ℕ)) → Option (List ℕ) → ℕ → ℕ → ℕ → Option (List ℕ) → Option (List ℕ) → Type 0
-DeliversFailedRead words told failed before now result old new =
-    (settings : Settings) × (settings_of words ≡ Some settings) × FailsWith (λ place. Delivers result 66 (read_line place) old new) settings told failed before now
+DeliversFailedRead words told failed before now result old new = WordsFail (λ place. Delivers result 66 (read_line place) old new) words told failed before now
 
 -- all statuses
 abbrev pub statuses : List ℕ

@@ -1,32 +1,52 @@
 -- What texts are: accepted as a program, or refused; and what is answered for them.
-use Rattle.std.specs.Prelude.{◌≡◌, ℕ, ◌+◌, ◌*◌, ◌≤◌, ◌<◌, ◌==◌, ◌⊎◌, Bool, List, [], ◌∷◌, ◌++◌, Option, length, max, codes, decimal, IsTrue}
+use Rattle.std.specs.Prelude.{◌≡◌, ℕ, ◌+◌, ◌*◌, ◌≤◌, ◌<◌, ◌==◌, ◌⊎◌, Bool, List, [], ◌∷◌, ◌++◌, Option, Some, None, length, max, codes, decimal, IsTrue}
 use Rattle.std.specs.List.{list_any, flat_map}
+use Rattle.tel_base.specs.declared.places.Place.{Place}
 use Rattle.tel_base.specs.Bytes.{Appends}
-use Rattle.tel_rule.specs.declared.rules.Rule.{Rule}
-use Rattle.tel_rule.specs.Ground.{Ground, atom_names}
+use Rattle.tel_rule.specs.declared.statements.Program.{Program}
+use Rattle.tel_rule.specs.Ground.{Ground}
 use Rattle.tel_semantics.specs.declared.ends.How.TheVariants.{Complete}
 use Rattle.tel_semantics.specs.Equilibrium.{list_of}
 use Rattle.tel_semantics.specs.Print.{print}
 use Rattle.tel_settings.specs.declared.fields.Settings.{Settings}
 use Rattle.tel_settings.specs.Run.{lengths_of, run_status}
-use Rattle.part_syntax.specs.Grammar.{IsProgram, total_bytes}
+use Rattle.part_syntax.specs.declared.fault.ReadFault.{ReadFault}
+use Rattle.part_syntax.specs.declared.fault.ReadFault.TheVariants as faults
+use Rattle.part_syntax.specs.Programs.{IsProgram, IsFirstFault, total_bytes}
 use Rattle.telingo_cli.specs.Reading.{largest_text}
-use Rattle.telingo_cli.specs.Naming.{atoms_of, template_of, most_atoms}
+use Rattle.telingo_cli.specs.Plain.{first_unbuilt}
+use Rattle.telingo_cli.specs.Naming.{atoms_of, most_atoms}
+use Rattle.telingo_cli.specs.Grounding.{template_of}
 
+-- Accepted as this program; refused for their first fault, for a statement that isn't plain, or for their size.
 pub data Verdict : Type 0 where
-  Accepted : List Rule → Verdict
-  Syntax : Verdict
+  Accepted : Program → Verdict
+  Refused : ReadFault → Verdict
+  Unbuilt : Place → Verdict
   Large : Verdict
 
 -- how many atoms the greatest length has in all its states, or one state where no length is run
-abbrev pub places_of : Settings → List Rule → ℕ
-places_of settings rules = max settings.imax 1 * length (atoms_of rules)
+abbrev pub places_of : Settings → Program → ℕ
+places_of settings program = max settings.imax 1 * length (atoms_of program.statements)
 
--- The size is looked at first, then the grammar, and then the number of different names at the greatest length.
+-- the texts are this program, whose statements are all plain
+pub record SayPlain (texts : List (List ℕ)) (program : Program) : Type 0 where
+  pub reads : IsProgram texts program
+  pub plain : first_unbuilt program.statements ≡ None
+
+-- the texts are a program, whose first statement that isn't plain stands here
+pub record SayUnbuilt (texts : List (List ℕ)) (place : Place) : Type 0 where
+  pub program : Program
+  pub reads : IsProgram texts program
+  pub first : first_unbuilt program.statements ≡ Some place
+
+-- The size is looked at first, then the grammar, then which statements are plain, and then the number of different names at the
+-- greatest length.
 abbrev pub IsVerdict : Settings → List (List ℕ) → Verdict → Type 0
-IsVerdict settings texts (Accepted rules) = (total_bytes texts ≤ largest_text) × IsProgram texts rules × (places_of settings rules ≤ most_atoms)
-IsVerdict settings texts Syntax = (total_bytes texts ≤ largest_text) × ((rules : List Rule) → IsProgram texts rules → ⊥)
-IsVerdict settings texts Large = (largest_text < total_bytes texts) ⊎ ((total_bytes texts ≤ largest_text) × ((rules : List Rule) × IsProgram texts rules × (most_atoms < places_of settings rules)))
+IsVerdict settings texts (Accepted program) = (total_bytes texts ≤ largest_text) × SayPlain texts program × (places_of settings program ≤ most_atoms)
+IsVerdict settings texts (Refused fault) = (total_bytes texts ≤ largest_text) × IsFirstFault texts fault
+IsVerdict settings texts (Unbuilt place) = (total_bytes texts ≤ largest_text) × SayUnbuilt texts place
+IsVerdict settings texts Large = (largest_text < total_bytes texts) ⊎ ((total_bytes texts ≤ largest_text) × ((program : Program) × SayPlain texts program × (most_atoms < places_of settings program)))
 
 -- how many temporal equilibrium models of length n there are
 abbrev pub count_of : Ground → ℕ → ℕ
@@ -34,7 +54,7 @@ count_of program n = length (list_of program n)
 
 -- what is printed for length n
 abbrev pub printed_length : Ground → ℕ → List ℕ
-printed_length program n = print (atom_names program.atoms) n (list_of program n) Complete
+printed_length program n = print program n (list_of program n) Complete
 
 -- what a run prints: its lengths in order, and nothing else
 abbrev pub printed_run : Settings → Ground → List ℕ
@@ -42,18 +62,37 @@ printed_run settings program = flat_map (printed_length program) (lengths_of set
 
 -- 10 or 20 as the run tells, and 65 or 69 where the texts are refused
 abbrev pub status_of : Settings → Verdict → ℕ
-status_of settings (Accepted rules) = run_status settings (count_of (template_of rules))
-status_of settings Syntax = 65
+status_of settings (Accepted program) = run_status settings (count_of (template_of program.statements))
+status_of settings (Refused fault) = 65
+status_of settings (Unbuilt place) = 65
 status_of settings Large = 69
 
 abbrev pub usage_line : List ℕ
 usage_line = codes "error: usage\n"
 
-abbrev pub syntax_line : List ℕ
-syntax_line = codes "error: Syntax\n"
-
 abbrev pub large_line : List ℕ
 large_line = codes "error: large\n"
+
+-- the line and the byte of a place, and before them its file, in decimal digits with colons between
+abbrev pub position_text : Place → List ℕ
+position_text place = decimal place.line ++ codes ":" ++ decimal place.at
+
+abbrev pub place_text : Place → List ℕ
+place_text place = decimal place.file ++ codes ":" ++ position_text place
+
+-- the line of a refusal that has a place
+abbrev pub line_at : List ℕ → Place → List ℕ
+line_at cause place = codes "error: " ++ cause ++ codes " at " ++ place_text place ++ codes "\n"
+
+abbrev pub fault_line : ReadFault → List ℕ
+fault_line (faults.BadByte place) = line_at (codes "BadByte") place
+fault_line (faults.NumberRange place) = line_at (codes "NumberRange") place
+fault_line (faults.TooDeep place) = line_at (codes "TooDeep") place
+fault_line (faults.Syntax place) = line_at (codes "Syntax") place
+fault_line faults.Memory = []
+
+abbrev pub unbuilt_line : Place → List ℕ
+unbuilt_line place = line_at (codes "Unbuilt") place
 
 -- the line of a failed read of the file word at this place, from 0
 abbrev pub read_line : ℕ → List ℕ
@@ -61,8 +100,9 @@ read_line place = codes "error: read " ++ decimal (place + 1) ++ codes "\n"
 
 -- what is printed
 abbrev pub output_of : Settings → Verdict → List ℕ
-output_of settings (Accepted rules) = printed_run settings (template_of rules)
-output_of settings Syntax = syntax_line
+output_of settings (Accepted program) = printed_run settings (template_of program.statements)
+output_of settings (Refused fault) = fault_line fault
+output_of settings (Unbuilt place) = unbuilt_line place
 output_of settings Large = large_line
 
 abbrev pub is_among : List ℕ → ℕ → Bool

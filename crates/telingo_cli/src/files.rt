@@ -2,7 +2,7 @@
 ghost use Rattle.std.specs.Prelude.{◌≡◌, ℕ, ◌+◌, ◌^◌, ◌<◌, ◌≤◌, List, length, IfOk, IfErr, IfSome};
 ghost use Rattle.std.specs.List.{position};
 ghost use Rattle.std.specs.Str.{bytes_eq};
-ghost use Rattle.part_syntax.specs.Grammar.{total_bytes};
+ghost use Rattle.part_syntax.specs.Programs.{total_bytes};
 ghost use Rattle.telingo_cli.specs.Reading.{largest_text};
 ghost use Rattle.telingo_cli.specs.Texts.{AreTold, HaveLargeTexts, FailedAt, first_place};
 ghost use Rattle.telingo_cli.specs.Files.{KeepsCount};

@@ -4,9 +4,12 @@
 mod answering;
 mod files;
 mod grounding;
+mod laws;
 mod naming;
+mod plain;
 mod printing;
 mod reading;
+mod refusing;
 mod running;
 mod status;
 #[cfg(test)]

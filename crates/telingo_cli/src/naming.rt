@@ -1,14 +1,13 @@
-//! The template of a propositional program: its names, each once and in order, are its atoms.
+//! The names of a program, each once and in order.
 ghost use Rattle.std.specs.Prelude.{◌≡◌, ℕ, ◌+◌, ◌<◌, ◌≤◌, ◌^◌, List, [], ◌∷◌, ◌++◌, length, map, insert, IfOk, OnOk, IfSome, MatchOption, vec_len};
-ghost use Rattle.std.specs.List.{position};
+ghost use Rattle.std.specs.List.{position, flat_map};
 ghost use Rattle.std.specs.Str.{bytes_eq};
-ghost use Rattle.tel_rule.specs.declared.ground.GroundAtom.{GroundAtom};
-ghost use Rattle.tel_rule.specs.Ground.{atom_names};
 ghost use Rattle.tel_rule.specs.Rising.{with_name, with_names};
-ghost use Rattle.telingo_cli.specs.Naming.{head_names, literal_name, rule_names, names_of, atoms_of, number_of, most_atoms};
+ghost use Rattle.telingo_cli.specs.Naming.{joined, formula_names, item_names, literal_names, head_names, kind_names, names_of, atoms_of, number_of, most_atoms};
 
 use std::alloc::Global;
-use tel_rule::{GroundAtom, PlainHead, PlainLiteral, Rule, insert_atom, place_of};
+use tel_base::Text;
+use tel_rule::{Formula, Head, Kind, LitItem, Literal, Statement, insert_name, place_of};
 
 /// Why a program has no template.
 #[derive(Clone, Copy, Debug, PartialEq, Eq)]
@@ -22,56 +21,59 @@ pub enum TemplateFault {
 /// The most atoms that a program may have.
 const MOST_ATOMS: usize = 12;
 
-/// Puts a name among the atoms, unless it is there.
-fn add_name(alloc: Global, atoms: &mut Vec<GroundAtom>, name: &[u8]) -> Result<(), TemplateFault>
-    requires { vec_len atoms.old ≤ most_atoms }
-    ensures ok { OnOk result (atom_names atoms.new.items ≡ with_name name.now (atom_names atoms.old.items)) }
-    ensures few { OnOk result (vec_len atoms.new ≤ most_atoms) }
-    ensures large { result ≡ Err TemplateFault.Large → most_atoms < length (with_name name.now (atom_names atoms.old.items)) }
+/// Puts a name among the names, unless it is there.
+fn add_name(alloc: Global, names: &mut Vec<Text>, name: &[u8]) -> Result<(), TemplateFault>
+    requires { vec_len names.old ≤ most_atoms }
+    ensures ok { OnOk result (names.new.items ≡ with_name name.now names.old.items) }
+    ensures few { OnOk result (vec_len names.new ≤ most_atoms) }
+    ensures large { result ≡ Err TemplateFault.Large → most_atoms < length (with_name name.now names.old.items) }
 {
-    let Some(place) = place_of(atoms.as_slice(), name) else {
+    let Some(place) = place_of(names.as_slice(), name) else {
         return Ok(());
     };
-    if atoms.len() == MOST_ATOMS {
+    if names.len() == MOST_ATOMS {
         return Err(TemplateFault::Large);
     }
-    match insert_atom(alloc, atoms, place, name) {
+    match insert_name(alloc, names, place, name) {
         Ok(()) => Ok(()),
         Err(_) => Err(TemplateFault::Memory),
     }
 }
 
-/// Puts the name of a head among the atoms.
-fn add_head(
-    alloc: Global,
-    atoms: &mut Vec<GroundAtom>,
-    head: &PlainHead,
-) -> Result<(), TemplateFault>
-    requires { vec_len atoms.old ≤ most_atoms }
-    ensures ok { OnOk result (atom_names atoms.new.items ≡ with_names (head_names head.now) (atom_names atoms.old.items)) }
-    ensures few { OnOk result (vec_len atoms.new ≤ most_atoms) }
-    ensures large { result ≡ Err TemplateFault.Large → most_atoms < length (with_names (head_names head.now) (atom_names atoms.old.items)) }
+/// Puts the names of a formula among the names.
+#[cycle(names_of_formulas)]
+fn add_formula(alloc: Global, names: &mut Vec<Text>, formula: &Formula) -> Result<(), TemplateFault>
+    requires { vec_len names.old ≤ most_atoms }
+    ensures ok { OnOk result (names.new.items ≡ with_names (formula_names formula.now) names.old.items) }
+    ensures few { OnOk result (vec_len names.new ≤ most_atoms) }
+    ensures large { result ≡ Err TemplateFault.Large → most_atoms < length (with_names (formula_names formula.now) names.old.items) }
 {
-    match head {
-        PlainHead::Normal { name, .. } => add_name(alloc, atoms, name.as_slice()),
-        PlainHead::Choice { name, .. } => add_name(alloc, atoms, name.as_slice()),
-        PlainHead::None => Ok(()),
+    match formula {
+        Formula::Const(_) => Ok(()),
+        Formula::Atom(atom) => add_name(alloc, names, atom.name.as_slice()),
+        Formula::Unary(_, operand) => add_formula(alloc, names, operand.get()),
+        Formula::Binary(_, left, right) => match add_formula(alloc, names, left.get()) {
+            Ok(()) => add_formula(alloc, names, right.get()),
+            Err(fault) => Err(fault),
+        },
+        Formula::Many(_, operands) => add_formulas(alloc, names, operands.as_slice()),
     }
 }
 
-/// Puts the names of a body among the atoms.
-fn add_body(
+/// Puts the names of these formulas among the names.
+#[cycle(names_of_formulas)]
+fn add_formulas(
     alloc: Global,
-    atoms: &mut Vec<GroundAtom>,
-    body: &[PlainLiteral],
+    names: &mut Vec<Text>,
+    formulas: &[Formula],
 ) -> Result<(), TemplateFault>
-    requires { vec_len atoms.old ≤ most_atoms }
-    ensures ok { OnOk result (atom_names atoms.new.items ≡ with_names (map literal_name body.now) (atom_names atoms.old.items)) }
-    ensures few { OnOk result (vec_len atoms.new ≤ most_atoms) }
-    ensures large { result ≡ Err TemplateFault.Large → most_atoms < length (with_names (map literal_name body.now) (atom_names atoms.old.items)) }
+    requires { vec_len names.old ≤ most_atoms }
+    ensures ok { OnOk result (names.new.items ≡ with_names (joined (map formula_names formulas.now)) names.old.items) }
+    ensures few { OnOk result (vec_len names.new ≤ most_atoms) }
+    ensures large { result ≡ Err TemplateFault.Large → most_atoms < length (with_names (joined (map formula_names formulas.now)) names.old.items) }
 {
-    for literal in body {
-        match add_name(alloc, atoms, literal.name.as_slice()) {
+    for formula in formulas {
+        match add_formula(alloc, names, formula) {
             Ok(()) => {}
             Err(fault) => return Err(fault),
         }
@@ -79,48 +81,111 @@ fn add_body(
     Ok(())
 }
 
-/// Puts the names of a rule among the atoms.
-fn add_rule(alloc: Global, atoms: &mut Vec<GroundAtom>, rule: &Rule) -> Result<(), TemplateFault>
-    requires { vec_len atoms.old ≤ most_atoms }
-    ensures ok { OnOk result (atom_names atoms.new.items ≡ with_names (rule_names rule.now) (atom_names atoms.old.items)) }
-    ensures few { OnOk result (vec_len atoms.new ≤ most_atoms) }
-    ensures large { result ≡ Err TemplateFault.Large → most_atoms < length (with_names (rule_names rule.now) (atom_names atoms.old.items)) }
+/// Puts the names of a literal among the names.
+fn add_literal(alloc: Global, names: &mut Vec<Text>, literal: &Literal) -> Result<(), TemplateFault>
+    requires { vec_len names.old ≤ most_atoms }
+    ensures ok { OnOk result (names.new.items ≡ with_names (literal_names literal.now) names.old.items) }
+    ensures few { OnOk result (vec_len names.new ≤ most_atoms) }
+    ensures large { result ≡ Err TemplateFault.Large → most_atoms < length (with_names (literal_names literal.now) names.old.items) }
 {
-    match add_head(alloc, atoms, &rule.head) {
-        Ok(()) => add_body(alloc, atoms, rule.body.as_slice()),
-        Err(fault) => Err(fault),
+    match &literal.item {
+        LitItem::Atom(atom) => add_name(alloc, names, atom.name.as_slice()),
+        LitItem::Tel(formula) => add_formula(alloc, names, formula),
+        LitItem::Compare(..) => Ok(()),
     }
 }
 
-/// The atoms of a program: each of its names once, in order.
-pub fn atoms_of(alloc: Global, rules: &[Rule]) -> Result<Vec<GroundAtom>, TemplateFault>
-    ensures ok { IfOk result (λ atoms. atom_names atoms.items ≡ atoms_of rules.now) }
-    ensures few { IfOk result (λ atoms. vec_len atoms ≤ most_atoms) }
-    ensures large { result ≡ Err TemplateFault.Large → most_atoms < length (atoms_of rules.now) }
+/// Puts the names of a body among the names.
+fn add_body(alloc: Global, names: &mut Vec<Text>, body: &[Literal]) -> Result<(), TemplateFault>
+    requires { vec_len names.old ≤ most_atoms }
+    ensures ok { OnOk result (names.new.items ≡ with_names (flat_map literal_names body.now) names.old.items) }
+    ensures few { OnOk result (vec_len names.new ≤ most_atoms) }
+    ensures large { result ≡ Err TemplateFault.Large → most_atoms < length (with_names (flat_map literal_names body.now) names.old.items) }
 {
-    let mut atoms = Vec::new(alloc);
-    for rule in rules {
-        match add_rule(alloc, &mut atoms, rule) {
+    for literal in body {
+        match add_literal(alloc, names, literal) {
             Ok(()) => {}
             Err(fault) => return Err(fault),
         }
     }
-    Ok(atoms)
+    Ok(())
 }
 
-/// The place of the first atom with this name.
-fn find_name(atoms: &[GroundAtom], name: &[u8]) -> Option<usize>
-    ensures { result ≡ position (λ (atom : GroundAtom). bytes_eq name.now atom.name) atoms.now }
+/// Puts the name of a head among the names.
+fn add_head(alloc: Global, names: &mut Vec<Text>, head: &Head) -> Result<(), TemplateFault>
+    requires { vec_len names.old ≤ most_atoms }
+    ensures ok { OnOk result (names.new.items ≡ with_names (head_names head.now) names.old.items) }
+    ensures few { OnOk result (vec_len names.new ≤ most_atoms) }
+    ensures large { result ≡ Err TemplateFault.Large → most_atoms < length (with_names (head_names head.now) names.old.items) }
 {
-    atoms.iter().position(|atom| name == atom.name.as_slice())
+    match head {
+        Head::Normal(atom) => add_name(alloc, names, atom.name.as_slice()),
+        Head::Choice(atom) => add_name(alloc, names, atom.name.as_slice()),
+        Head::None => Ok(()),
+    }
+}
+
+/// Puts the names of a rule among the names.
+fn add_rule(
+    alloc: Global,
+    names: &mut Vec<Text>,
+    head: &Head,
+    body: &[Literal],
+) -> Result<(), TemplateFault>
+    requires { vec_len names.old ≤ most_atoms }
+    ensures ok { OnOk result (names.new.items ≡ with_names (head_names head.now ++ flat_map literal_names body.now) names.old.items) }
+    ensures few { OnOk result (vec_len names.new ≤ most_atoms) }
+    ensures large { result ≡ Err TemplateFault.Large → most_atoms < length (with_names (head_names head.now ++ flat_map literal_names body.now) names.old.items) }
+{
+    match add_head(alloc, names, head) {
+        Ok(()) => add_body(alloc, names, body),
+        Err(fault) => Err(fault),
+    }
+}
+
+/// Puts the names of what a statement says among the names.
+fn add_kind(alloc: Global, names: &mut Vec<Text>, kind: &Kind) -> Result<(), TemplateFault>
+    requires { vec_len names.old ≤ most_atoms }
+    ensures ok { OnOk result (names.new.items ≡ with_names (kind_names kind.now) names.old.items) }
+    ensures few { OnOk result (vec_len names.new ≤ most_atoms) }
+    ensures large { result ≡ Err TemplateFault.Large → most_atoms < length (with_names (kind_names kind.now) names.old.items) }
+{
+    match kind {
+        Kind::Rule(head, body) => add_rule(alloc, names, head, body.as_slice()),
+        Kind::Facts(fact) => add_name(alloc, names, fact.name.as_slice()),
+        Kind::Const(..) | Kind::Show(_) => Ok(()),
+    }
+}
+
+/// The names of a program, each once and in order.
+pub fn names_of(alloc: Global, statements: &[Statement]) -> Result<Vec<Text>, TemplateFault>
+    ensures ok { IfOk result (λ names. names.items ≡ atoms_of statements.now) }
+    ensures few { IfOk result (λ names. vec_len names ≤ most_atoms) }
+    ensures large { result ≡ Err TemplateFault.Large → most_atoms < length (atoms_of statements.now) }
+{
+    let mut names = Vec::new(alloc);
+    for statement in statements {
+        match add_kind(alloc, &mut names, &statement.kind) {
+            Ok(()) => {}
+            Err(fault) => return Err(fault),
+        }
+    }
+    Ok(names)
+}
+
+/// The place of this name among the names.
+fn find_name(names: &[Text], name: &[u8]) -> Option<usize>
+    ensures { result ≡ position (bytes_eq name.now) names.now }
+{
+    names.iter().position(|other| name == other.as_slice())
 }
 
 /// The number of the atom with this name.
-pub fn number_of(atoms: &[GroundAtom], name: &[u8]) -> u32
-    requires { length atoms.now ≤ most_atoms }
-    ensures { result ≡ number_of (atom_names atoms.now) name.now }
+pub fn number_of(names: &[Text], name: &[u8]) -> u32
+    requires { length names.now ≤ most_atoms }
+    ensures { result ≡ number_of names.now name.now }
 {
-    match find_name(atoms, name) {
+    match find_name(names, name) {
         Some(number) => number as u32,
         None => 0,
     }

@@ -1,7 +1,6 @@
 //! A whole length, printed as the run goes.
 ghost use Rattle.std.specs.Prelude.{◌≡◌, ℕ, ◌++◌, length};
 ghost use Rattle.std.specs.List.{flat_map};
-ghost use Rattle.tel_rule.specs.Ground.{atom_names};
 ghost use Rattle.tel_semantics.specs.Print.{trace_lines, print};
 ghost use Rattle.trace_print.specs.Waiting.{Writes};
 
@@ -12,7 +11,7 @@ use trace_print::{print_end, print_length, print_trace};
 
 /// Prints the lines of these traces.
 fn print_traces<O: Sink>(out: &mut O, template: &Template, traces: &[Trace]) -> Result<(), Failed>
-    ensures { Writes result (flat_map (trace_lines (atom_names template.now.atoms)) traces.now) (O.bytes out.old) (O.bytes out.new) (O.faults out.old) (O.faults out.new) }
+    ensures { Writes result (flat_map (trace_lines template.now) traces.now) (O.bytes out.old) (O.bytes out.new) (O.faults out.old) (O.faults out.new) }
 {
     for trace in traces {
         match print_trace(out, template, trace) {
@@ -31,7 +30,7 @@ pub fn print_all<O: Sink>(
     traces: &[Trace],
     how: How,
 ) -> Result<(), Failed>
-    ensures { Writes result (print (atom_names template.now.atoms) n traces.now how) (O.bytes out.old) (O.bytes out.new) (O.faults out.old) (O.faults out.new) }
+    ensures { Writes result (print template.now n traces.now how) (O.bytes out.old) (O.bytes out.new) (O.faults out.old) (O.faults out.new) }
 {
     match print_length(out, n) {
         Ok(()) => {}

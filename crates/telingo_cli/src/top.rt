@@ -2,16 +2,17 @@
 ghost use Rattle.std.specs.Prelude.{◌≡◌, ℕ, ◌<◌, ◌≤◌, List, [], ◌∷◌, Option, length, IsTrue, Some, None};
 ghost use Rattle.tel_base.specs.Bytes.{Appends};
 ghost use Rattle.tel_base.specs.Counts.{Rose, Stands};
-ghost use Rattle.tel_rule.specs.declared.rules.Rule.{Rule};
+ghost use Rattle.tel_rule.specs.declared.statements.Program.{Program};
 ghost use Rattle.tel_settings.specs.declared.fields.Settings.{Settings};
-ghost use Rattle.tel_settings.specs.Command.{settings_of};
+ghost use Rattle.tel_settings.specs.Command.{settings_of, IsWithinLimits};
 ghost use Rattle.telingo_cli.specs.Texts.{AreWhole};
 ghost use Rattle.telingo_cli.specs.Delivery.{code_of, Delivers, TellsFaults};
 ghost use Rattle.telingo_cli.specs.Verdict.{Verdict, Accepted, IsVerdict, status_of, output_of, TellsOfText, usage_line, read_line, is_among};
 ghost use Rattle.telingo_cli.specs.Top.{words_of, files_of, AreTextsOf, AnswersSome, AnswersWords, FailsWith, FailedRead, DeliversFailedRead, KeepsReading, statuses};
 
-use crate::answering::{Refusal, answer, refuse, refuse_read};
+use crate::answering::answer;
 use crate::files::{FilesFault, read_files};
+use crate::refusing::{Refusal, refuse, refuse_read};
 use crate::status::Status;
 use std::alloc::Global;
 use tel_base::{Sink, Source};
@@ -34,6 +35,7 @@ fn answer_files<S: Source, O: Sink>(
     texts: &mut S,
     out: &mut O,
 ) -> Status
+    requires { IsWithinLimits settings.now }
     ensures delivers { (whole : List (List ℕ)) (verdict : Verdict) → AreWhole (S.text texts.old) (files_of settings.now) whole → Stands (S.faults texts.old) (S.faults texts.new) → IsVerdict settings.now whole verdict
         → Delivers (code_of result) (status_of settings.now verdict) (output_of settings.now verdict) (O.bytes out.old) (O.bytes out.new) }
     ensures answers { TellsOfText (code_of result) → AnswersSome settings.now (S.text texts.old) (code_of result) (O.bytes out.old) (O.bytes out.new) }
@@ -83,7 +85,7 @@ fn answer_words<S: Source, O: Sink>(
 /// `words` are the words after the program's name, `texts` is where the files are read, `out` gets
 /// what is printed, and `log` nothing. The answer is the exit status: 10 where a trace was printed,
 /// 20 where the run ended without one, 64 for words that are no line of the command, 65 for texts
-/// that are no program, 66 for a read that failed, 69 for texts that are too large, 71 for want of
+/// that are no program or have a statement that isn't plain, 66 for a read that failed, 69 for texts that are too large, 71 for want of
 /// memory, and 74 for a write that failed.
 pub fn telingo<S: Source, O: Sink, L: Sink>(
     alloc: Global,
@@ -103,8 +105,8 @@ pub fn telingo<S: Source, O: Sink, L: Sink>(
     ensures answer_only { TellsOfText result → AnswersWords (words_of words.now) (S.text texts.old) result (O.bytes out.old) (O.bytes out.new) }
 
     // Accepted texts are answered by 10 or 20 where no read and no write fails, unless memory runs out.
-    ensures complete { (settings : Settings) (whole : List (List ℕ)) (rules : List Rule) → AreTextsOf (words_of words.now) (S.text texts.old) settings whole
-        → Stands (S.faults texts.old) (S.faults texts.new) → Stands (O.faults out.old) (O.faults out.new) → IsVerdict settings whole (Accepted rules)
+    ensures complete { (settings : Settings) (whole : List (List ℕ)) (program : Program) → AreTextsOf (words_of words.now) (S.text texts.old) settings whole
+        → Stands (S.faults texts.old) (S.faults texts.new) → Stands (O.faults out.old) (O.faults out.new) → IsVerdict settings whole (Accepted program)
         → IsTrue (is_among (10 ∷ 20 ∷ 71 ∷ []) result) }
 
     // A read that failed is delivered as such, 66 comes only with one, and with 10, 20, 64, 65 and 69 none failed.

@@ -50,6 +50,14 @@ puts-short {T} {E} {e} {a} b {old} {new} {p} {q} {before} {now} short = record {
   cause = short.cause;
 }
 
+-- nothing was put
+pub puts-none : {T E : Type 0} {x : T} {old : Option (List ℕ)} {p : List ℕ} {before : ℕ} → Puts {E = E} (Ok x) [] old old p p before before
+puts-none {T} {E} {x} {old} {p} {before} = record {
+  ok = ([], append-nil p, appends-nothing old);
+  err = tt;
+  cause = cause-nothing before x;
+}
+
 -- all that waited was written, and so it is as if nothing had been put
 pub puts-nothing : {T E : Type 0} {x : T} {old new : Option (List ℕ)} {p q : List ℕ} {before now : ℕ}
     → Writes {E = E} (Ok x) p old new before now → q ≡ [] → Puts {E = E} (Ok x) [] old new p q before now

@@ -2,6 +2,7 @@
 //! line wait in a small buffer on the stack, and go out together.
 #![tactic(auto)]
 
+mod atoms;
 mod lines;
 mod pieces;
 mod printing;

@@ -1,16 +1,16 @@
 //! The lines of the output, piece by piece.
 ghost use Rattle.std.specs.Prelude.{◌≡◌, ◌++◌, [], codes, decimal};
 ghost use Rattle.std.specs.List.{flat_map};
-ghost use Rattle.tel_rule.specs.Ground.{atom_names};
 ghost use Rattle.tel_semantics.specs.Print.{atom_text, state_line, state_lines, trace_lines, how_text};
 ghost use Rattle.trace_print.specs.Waiting.{Puts};
 
+use crate::atoms::{is_shown, put_numbered};
 use crate::pieces::put;
 use arrayvec::ArrayVec;
 use itoa::Buffer;
 use sqlite_items::Items;
 use tel_base::{Failed, Sink};
-use tel_rule::GroundAtom;
+use tel_rule::Template;
 use tel_semantics::How;
 
 /// Puts a number in decimal, with what stands before it and after it.
@@ -34,42 +34,35 @@ pub fn put_counted<O: Sink, const ROOM: usize>(
     }
 }
 
-/// The name of an atom. A number that no atom has gives the empty name.
-fn name_of(atoms: &[GroundAtom], atom: u32) -> &[u8]
-    ensures { atom_text (atom_names atoms.now) atom ≡ codes " " ++ result.now }
-{
-    match atoms.get(atom as usize) {
-        Some(found) => found.name.as_slice(),
-        None => &[],
-    }
-}
-
-/// Puts a space and the name of an atom.
+/// Puts the atom with this number, behind a space, where it is shown.
 fn put_atom<O: Sink, const ROOM: usize>(
     out: &mut O,
     waiting: &mut ArrayVec<u8, ROOM>,
-    atoms: &[GroundAtom],
+    template: &Template,
     atom: u32,
 ) -> Result<(), Failed>
-    ensures { Puts result (atom_text (atom_names atoms.now) atom) (O.bytes out.old) (O.bytes out.new) waiting.old.items waiting.new.items (O.faults out.old) (O.faults out.new) }
+    ensures { Puts result (atom_text template.now atom) (O.bytes out.old) (O.bytes out.new) waiting.old.items waiting.new.items (O.faults out.old) (O.faults out.new) }
 {
+    if !is_shown(&template.show, atom) {
+        return Ok(());
+    }
     match put(out, waiting, b" ") {
-        Ok(()) => put(out, waiting, name_of(atoms, atom)),
+        Ok(()) => put_numbered(out, waiting, template, atom),
         Err(fault) => Err(fault),
     }
 }
 
-/// Puts the atoms of a state.
+/// Puts the atoms of a state that are shown.
 fn put_atoms<O: Sink, const ROOM: usize>(
     out: &mut O,
     waiting: &mut ArrayVec<u8, ROOM>,
-    atoms: &[GroundAtom],
+    template: &Template,
     state: &[u32],
 ) -> Result<(), Failed>
-    ensures { Puts result (flat_map (atom_text (atom_names atoms.now)) state.now) (O.bytes out.old) (O.bytes out.new) waiting.old.items waiting.new.items (O.faults out.old) (O.faults out.new) }
+    ensures { Puts result (flat_map (atom_text template.now) state.now) (O.bytes out.old) (O.bytes out.new) waiting.old.items waiting.new.items (O.faults out.old) (O.faults out.new) }
 {
     for atom in state {
-        match put_atom(out, waiting, atoms, *atom) {
+        match put_atom(out, waiting, template, *atom) {
             Ok(()) => {}
             Err(fault) => return Err(fault),
         }
@@ -81,17 +74,17 @@ fn put_atoms<O: Sink, const ROOM: usize>(
 fn put_state<O: Sink, const ROOM: usize>(
     out: &mut O,
     waiting: &mut ArrayVec<u8, ROOM>,
-    atoms: &[GroundAtom],
+    template: &Template,
     instant: usize,
     state: &[u32],
 ) -> Result<(), Failed>
-    ensures { Puts result (state_line (atom_names atoms.now) instant state.now) (O.bytes out.old) (O.bytes out.new) waiting.old.items waiting.new.items (O.faults out.old) (O.faults out.new) }
+    ensures { Puts result (state_line template.now instant state.now) (O.bytes out.old) (O.bytes out.new) waiting.old.items waiting.new.items (O.faults out.old) (O.faults out.new) }
 {
     match put_counted(out, waiting, b"state ", instant as u64, b":") {
         Ok(()) => {}
         Err(fault) => return Err(fault),
     }
-    match put_atoms(out, waiting, atoms, state) {
+    match put_atoms(out, waiting, template, state) {
         Ok(()) => put(out, waiting, b"\n"),
         Err(fault) => Err(fault),
     }
@@ -101,13 +94,13 @@ fn put_state<O: Sink, const ROOM: usize>(
 fn put_states<O: Sink, const ROOM: usize>(
     out: &mut O,
     waiting: &mut ArrayVec<u8, ROOM>,
-    atoms: &[GroundAtom],
+    template: &Template,
     states: &[Items<u32>],
 ) -> Result<(), Failed>
-    ensures { Puts result (state_lines (atom_names atoms.now) 0 states.now) (O.bytes out.old) (O.bytes out.new) waiting.old.items waiting.new.items (O.faults out.old) (O.faults out.new) }
+    ensures { Puts result (state_lines template.now 0 states.now) (O.bytes out.old) (O.bytes out.new) waiting.old.items waiting.new.items (O.faults out.old) (O.faults out.new) }
 {
     for (instant, state) in states.iter().enumerate() {
-        match put_state(out, waiting, atoms, instant, state.as_slice()) {
+        match put_state(out, waiting, template, instant, state.as_slice()) {
             Ok(()) => {}
             Err(fault) => return Err(fault),
         }
@@ -119,13 +112,13 @@ fn put_states<O: Sink, const ROOM: usize>(
 pub fn put_trace<O: Sink, const ROOM: usize>(
     out: &mut O,
     waiting: &mut ArrayVec<u8, ROOM>,
-    atoms: &[GroundAtom],
+    template: &Template,
     states: &[Items<u32>],
 ) -> Result<(), Failed>
-    ensures { Puts result (trace_lines (atom_names atoms.now) states.now) (O.bytes out.old) (O.bytes out.new) waiting.old.items waiting.new.items (O.faults out.old) (O.faults out.new) }
+    ensures { Puts result (trace_lines template.now states.now) (O.bytes out.old) (O.bytes out.new) waiting.old.items waiting.new.items (O.faults out.old) (O.faults out.new) }
 {
     match put(out, waiting, b"trace\n") {
-        Ok(()) => put_states(out, waiting, atoms, states),
+        Ok(()) => put_states(out, waiting, template, states),
         Err(fault) => Err(fault),
     }
 }

@@ -2,7 +2,6 @@
 ghost use Rattle.std.specs.Prelude.{◌≡◌, ◌++◌, [], decimal, OnOk, OnErr};
 ghost use Rattle.tel_base.specs.Bytes.{Appends, AppendsFront};
 ghost use Rattle.tel_base.specs.Counts.{HasCause};
-ghost use Rattle.tel_rule.specs.Ground.{atom_names};
 ghost use Rattle.tel_semantics.specs.Print.{header_line, trace_lines, closing_line};
 ghost use Rattle.trace_print.specs.Waiting.{Writes};
 
@@ -11,7 +10,7 @@ use crate::pieces::flush;
 use arrayvec::ArrayVec;
 use sqlite_items::Items;
 use tel_base::{Failed, Sink};
-use tel_rule::{GroundAtom, Template, Trace};
+use tel_rule::{Template, Trace};
 use tel_semantics::How;
 
 /// How many bytes wait at most.
@@ -38,13 +37,13 @@ fn write_counted<O: Sink, const SIZE: usize>(
 fn write_trace<O: Sink, const SIZE: usize>(
     out: &mut O,
     waiting: &mut ArrayVec<u8, SIZE>,
-    atoms: &[GroundAtom],
+    template: &Template,
     states: &[Items<u32>],
 ) -> Result<(), Failed>
     requires { waiting.old.items ≡ [] }
-    ensures { Writes result (trace_lines (atom_names atoms.now) states.now) (O.bytes out.old) (O.bytes out.new) (O.faults out.old) (O.faults out.new) }
+    ensures { Writes result (trace_lines template.now states.now) (O.bytes out.old) (O.bytes out.new) (O.faults out.old) (O.faults out.new) }
 {
-    match put_trace(out, waiting, atoms, states) {
+    match put_trace(out, waiting, template, states) {
         Ok(()) => flush(out, waiting),
         Err(fault) => Err(fault),
     }
@@ -60,21 +59,16 @@ pub fn print_length<O: Sink>(out: &mut O, n: u32) -> Result<(), Failed>
     write_counted(out, &mut waiting, b"length ", u64::from(n), b"\n")
 }
 
-/// Prints a trace: the line `trace`, and a line for each of its states with the names of the atoms
-/// that are true there. A number that no atom of the template has gives no name. After an error some
-/// front of the lines is written.
+/// Prints a trace: the line `trace`, and a line for each of its states with the shown atoms that are
+/// true there. A number that no atom of the template has gives nothing. After an error some front of
+/// the lines is written.
 pub fn print_trace<O: Sink>(out: &mut O, template: &Template, trace: &Trace) -> Result<(), Failed>
-    ensures ok { OnOk result (Appends (O.bytes out.old) (O.bytes out.new) (trace_lines (atom_names template.now.atoms) trace.now)) }
-    ensures err { OnErr result (AppendsFront (O.bytes out.old) (O.bytes out.new) (trace_lines (atom_names template.now.atoms) trace.now)) }
+    ensures ok { OnOk result (Appends (O.bytes out.old) (O.bytes out.new) (trace_lines template.now trace.now)) }
+    ensures err { OnErr result (AppendsFront (O.bytes out.old) (O.bytes out.new) (trace_lines template.now trace.now)) }
     ensures cause { HasCause (O.faults out.old) (O.faults out.new) result }
 {
     let mut waiting: ArrayVec<u8, ROOM> = ArrayVec::new();
-    write_trace(
-        out,
-        &mut waiting,
-        template.atoms.as_slice(),
-        trace.states.as_slice(),
-    )
+    write_trace(out, &mut waiting, template, trace.states.as_slice())
 }
 
 /// Prints the closing line of a length: how its listing ended, and how many traces were printed.

@@ -1,6 +1,8 @@
 //! Lines that were worked out by hand, over sinks in memory.
 
-ghost use Rattle.std.specs.Prelude.{◌≡◌, ◌≤◌, IsTrue};
+ghost use Rattle.std.specs.Prelude.{◌≡◌, ◌≤◌, true, false, [], ◌∷◌, IfOk, IsTrue};
+ghost use Rattle.tel_term.specs.declared.terms.Term.TheVariants as terms;
+ghost use Rattle.tel_term.specs.declared.terms.Value.TheVariants as values;
 ghost use Rattle.tel_rule.specs.Rising.{numbers_rise};
 
 use crate::{print_end, print_length, print_trace};
@@ -9,8 +11,9 @@ use std::alloc::Global;
 use std::process::Abort;
 use std::test::Fail;
 use tel_base::{MemSink, Memory, NullSink, Text};
-use tel_rule::{GroundAtom, Template, Trace};
+use tel_rule::{GroundAtom, Show, Template, Trace};
 use tel_semantics::How;
+use tel_term::{Symbols, Term, Value};
 
 /// Whether a call went well, and what the sink took of it.
 type Printed = (bool, Vec<u8>);
@@ -23,27 +26,113 @@ fn sink_of(alloc: Global, most: usize, fails: u64) -> Result<MemSink, Fail>
     Ok(MemSink::new(alloc, 4096, most, fails)?)
 }
 
-/// A program with no rules over the atoms a and b.
-fn two_atoms(alloc: Global) -> Result<Template, Memory> {
+/// The name as a symbol.
+fn one_symbol(alloc: Global, name: &[u8]) -> Result<Symbols, Memory>
+    ensures { IfOk result (λ symbols. symbols ≡ terms.Name name.now ∷ []) }
+{
+    let mut symbols = Symbols::new(alloc);
+    let _ = symbols.value(Term::Name(Text::from_slice(alloc, name)?))?;
+    Ok(symbols)
+}
+
+/// The atom of the first symbol and its negative.
+fn a_and_its_negative(alloc: Global) -> Result<Items<GroundAtom>, Memory>
+    ensures { IfOk result (λ atoms. atoms ≡ record { negative = false; name = 0; args = [] } ∷ record { negative = true; name = 0; args = [] } ∷ []) }
+{
     let mut atoms = Items::new(alloc);
     atoms.push(GroundAtom {
-        name: Text::from_slice(alloc, b"a")?,
+        negative: false,
+        name: 0,
+        args: Items::new(alloc),
     })?;
     atoms.push(GroundAtom {
-        name: Text::from_slice(alloc, b"b")?,
+        negative: true,
+        name: 0,
+        args: Items::new(alloc),
     })?;
-    let instances = Items::new(alloc);
-    Ok(Template { atoms, instances })
+    Ok(atoms)
+}
+
+/// A program with no rules over the atom a and its negative, of which both are shown, or the first.
+fn two_atoms(alloc: Global, both: bool) -> Result<Template, Memory> {
+    let symbols = one_symbol(alloc, b"a")?;
+    let atoms = a_and_its_negative(alloc)?;
+    let mut pairs = Items::new(alloc);
+    pairs.push((0, 1))?;
+    let mut first = Items::new(alloc);
+    first.push(0)?;
+    let show = if both { Show::All } else { Show::Only(first) };
+    Ok(Template {
+        symbols,
+        atoms,
+        pairs,
+        nodes: Items::new(alloc),
+        instances: Items::new(alloc),
+        show,
+    })
+}
+
+/// The plain atom of the first symbol with these arguments.
+fn atom_with(alloc: Global, args: Items<Value>) -> Result<Items<GroundAtom>, Memory>
+    ensures { IfOk result (λ atoms. atoms ≡ record { negative = false; name = 0; args = args } ∷ []) }
+{
+    let mut atoms = Items::new(alloc);
+    atoms.push(GroundAtom {
+        negative: false,
+        name: 0,
+        args,
+    })?;
+    Ok(atoms)
 }
 
 /// A program with no rules over one atom of this name.
 fn one_atom(alloc: Global, name: &[u8]) -> Result<Template, Memory> {
-    let mut atoms = Items::new(alloc);
-    atoms.push(GroundAtom {
-        name: Text::from_slice(alloc, name)?,
-    })?;
-    let instances = Items::new(alloc);
-    Ok(Template { atoms, instances })
+    let symbols = one_symbol(alloc, name)?;
+    let atoms = atom_with(alloc, Items::new(alloc))?;
+    Ok(Template {
+        symbols,
+        atoms,
+        pairs: Items::new(alloc),
+        nodes: Items::new(alloc),
+        instances: Items::new(alloc),
+        show: Show::All,
+    })
+}
+
+/// The name p, and the string of a quote, a backslash and a line feed.
+fn name_and_string(alloc: Global) -> Result<Symbols, Memory>
+    ensures { IfOk result (λ symbols. symbols ≡ terms.Name (112 ∷ []) ∷ terms.Str (34 ∷ 92 ∷ 10 ∷ []) ∷ []) }
+{
+    let mut symbols = Symbols::new(alloc);
+    let _ = symbols.value(Term::Name(Text::from_slice(alloc, b"p")?))?;
+    let _ = symbols.value(Term::Str(Text::from_slice(alloc, b"\"\\\n")?))?;
+    Ok(symbols)
+}
+
+/// A number, the first symbol and the second.
+fn three_args(alloc: Global, number: i32) -> Result<Items<Value>, Memory>
+    ensures { IfOk result (λ args. args ≡ values.Num number ∷ values.Sym 0 ∷ values.Sym 1 ∷ []) }
+{
+    let mut args = Items::new(alloc);
+    args.push(Value::Num(number))?;
+    args.push(Value::Sym(0))?;
+    args.push(Value::Sym(1))?;
+    Ok(args)
+}
+
+/// A program with no rules over one atom with three arguments.
+fn one_with_args(alloc: Global, number: i32) -> Result<Template, Memory> {
+    let symbols = name_and_string(alloc)?;
+    let args = three_args(alloc, number)?;
+    let atoms = atom_with(alloc, args)?;
+    Ok(Template {
+        symbols,
+        atoms,
+        pairs: Items::new(alloc),
+        nodes: Items::new(alloc),
+        instances: Items::new(alloc),
+        show: Show::All,
+    })
 }
 
 /// A trace of one state.
@@ -105,11 +194,13 @@ fn end_printed(
     Ok((went_well, Vec::from_slice(alloc, sink.bytes())?))
 }
 
-/// What a sink gets of a trace of two states over a and b.
+/// What a sink gets of a trace of two states over a and its negative, of which both are shown, or the
+/// first.
 fn states_printed(
     alloc: Global,
     first: &[u32],
     second: &[u32],
+    both: bool,
     most: usize,
     fails: u64,
 ) -> Result<Printed, Fail>
@@ -117,7 +208,7 @@ fn states_printed(
     requires first { IsTrue (numbers_rise first.now) }
     requires second { IsTrue (numbers_rise second.now) }
 {
-    let template = two_atoms(alloc)?;
+    let template = two_atoms(alloc, both)?;
     let trace = two_states(alloc, first, second)?;
     trace_printed(alloc, &template, &trace, most, fails)
 }
@@ -138,18 +229,20 @@ fn expect(rt: &impl Abort, printed: Printed, went_well: bool, wanted: &str) {
 #[test]
 fn traces(rt: HostRuntime) -> Result<(), Fail> {
     let alloc = rt.alloc();
-    let lines = "trace\nstate 0: a\nstate 1: a b\n";
-    expect(
-        &rt,
-        states_printed(alloc, &[0], &[0, 1], 1, 0)?,
-        true,
-        lines,
-    );
-    let lines = "trace\nstate 0:\nstate 1: b\n";
-    expect(&rt, states_printed(alloc, &[], &[1], 4, 0)?, true, lines);
+    let lines = "trace\nstate 0: a\nstate 1: a -a\n";
+    let printed = states_printed(alloc, &[0], &[0, 1], true, 1, 0)?;
+    expect(&rt, printed, true, lines);
+    let lines = "trace\nstate 0: a\nstate 1: a\n";
+    let printed = states_printed(alloc, &[0], &[0, 1], false, 1, 0)?;
+    expect(&rt, printed, true, lines);
+    let lines = "trace\nstate 0:\nstate 1: -a\n";
+    let printed = states_printed(alloc, &[], &[1], true, 4, 0)?;
+    expect(&rt, printed, true, lines);
     // all of it goes out in the first call
-    expect(&rt, states_printed(alloc, &[], &[1], 4096, 2)?, true, lines);
-    expect(&rt, states_printed(alloc, &[], &[1], 4, 2)?, false, "trac");
+    let printed = states_printed(alloc, &[], &[1], true, 4096, 2)?;
+    expect(&rt, printed, true, lines);
+    let printed = states_printed(alloc, &[], &[1], true, 4, 2)?;
+    expect(&rt, printed, false, "trac");
     Ok(())
 }
 
@@ -218,4 +311,15 @@ fn a_name_longer_than_the_buffer(rt: HostRuntime) -> Result<(), Fail> {
     let alloc = rt.alloc();
     expect_long(&rt, alloc, 2000, 3, false, "")?;
     expect_long(&rt, alloc, 2000, 4, true, "\n")
+}
+
+#[test]
+fn arguments(rt: HostRuntime) -> Result<(), Fail> {
+    let alloc = rt.alloc();
+    let template = one_with_args(alloc, -3)?;
+    let trace = one_state(alloc, &[0])?;
+    let printed = trace_printed(alloc, &template, &trace, 4096, 0)?;
+    let lines = "trace\nstate 0: p(-3,p,\"\\\"\\\\\\n\")\n";
+    expect(&rt, printed, true, lines);
+    Ok(())
 }

@@ -4,4 +4,4 @@ use Rattle.tel_rule.specs.Ground.{instance_in_range}
 use Rattle.tel_semantics.proofs.tests.all_are_known.Given as goal
 
 abbrev pub invariant-loop-instance : goal.invariant-loop-instance
-invariant-loop-instance l = list_all (instance_in_range 2) (take l.instance-index l.instances) ≡ true
+invariant-loop-instance l = list_all (instance_in_range 2 l.nodes) (take l.instance-index l.instances) ≡ true

@@ -1,6 +1,6 @@
 use Rattle.std.proofs.Common.{◌≡◌, ℕ, ◌+◌, ◌-◌, Bool, cond, List, ◌∷◌, [], ◌++◌, Err, Option, sym, ap, ◌∙◌, subst, take, IfSome, arith}
 use Rattle.tel_base.specs.Counts.{Rose}
-use Rattle.part_syntax.specs.Grammar.{total_bytes}
+use Rattle.part_syntax.specs.Programs.{total_bytes}
 use Rattle.telingo_cli.specs.Reading.{IsTold, HasMore}
 use Rattle.telingo_cli.specs.Texts.{AreTold, first_place}
 use Rattle.telingo_cli.proofs.TextSteps.{told-more, total-more, large_files, fails-at}

@@ -1,11 +1,11 @@
-use Rattle.std.proofs.Common.{◌≡◌, ◌≤◌, map, drop, vec_len}
-use Rattle.tel_rule.specs.Ground.{atom_names}
+use Rattle.std.proofs.Common.{◌≡◌, ◌≤◌, drop, vec_len}
+use Rattle.std.specs.List.{flat_map}
 use Rattle.tel_rule.specs.Rising.{with_names}
-use Rattle.telingo_cli.specs.Naming.{literal_name, most_atoms}
+use Rattle.telingo_cli.specs.Naming.{literal_names, most_atoms}
 use Rattle.telingo_cli.proofs.naming.add_body.Given as goal
 
 abbrev pub invariant-loop-literal : goal.invariant-loop-literal
 invariant-loop-literal l = record {
-  named : with_names (map literal_name (drop l.literal-index l.body)) (atom_names l.atoms.items) ≡ with_names (map literal_name l.body) (atom_names l.initial.atoms.items);
-  few : vec_len l.atoms ≤ most_atoms;
+  named : with_names (flat_map literal_names (drop l.literal-index l.body)) l.names.items ≡ with_names (flat_map literal_names l.body) l.initial.names.items;
+  few : vec_len l.names ≤ most_atoms;
 }

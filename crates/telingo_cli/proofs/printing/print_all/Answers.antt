@@ -1,6 +1,5 @@
 use Rattle.std.proofs.Common.{◌++◌, length, Ok}
 use Rattle.std.specs.List.{flat_map}
-use Rattle.tel_rule.specs.Ground.{atom_names}
 use Rattle.tel_semantics.specs.Print.{header_line, closing_line, trace_lines}
 use Rattle.telingo_cli.proofs.Writing.{fault_at, writes-then, writes-short}
 use Rattle.telingo_cli.proofs.printing.print_all.Goals as goal
@@ -8,7 +7,7 @@ use Rattle.telingo_cli.proofs.printing.print_all.Goals as goal
 pub returns-in-Err : goal.returns-in-Err
 returns-in-Err g c =
     let header = header_line c.args.n in
-    let lines = flat_map (trace_lines (atom_names c.args.template.now.atoms)) c.args.traces.now in
+    let lines = flat_map (trace_lines c.args.template.now) c.args.traces.now in
     let closing = closing_line c.args.how (length c.args.traces.now) in
     let bytes = g.O.Sink.bytes in
     let faults = g.O.Sink.faults in
@@ -21,7 +20,7 @@ returns-in-Err g c =
 pub returns-in-Ok-print_traces : goal.returns-in-Ok-print_traces
 returns-in-Ok-print_traces g c =
     let header = header_line c.args.n in
-    let lines = flat_map (trace_lines (atom_names c.args.template.now.atoms)) c.args.traces.now in
+    let lines = flat_map (trace_lines c.args.template.now) c.args.traces.now in
     let closing = closing_line c.args.how (length c.args.traces.now) in
     let bytes = g.O.Sink.bytes in
     let faults = g.O.Sink.faults in
@@ -37,7 +36,7 @@ returns-in-Ok-print_traces g c =
 pub returns-in-Err-print_traces : goal.returns-in-Err-print_traces
 returns-in-Err-print_traces g c =
     let header = header_line c.args.n in
-    let lines = flat_map (trace_lines (atom_names c.args.template.now.atoms)) c.args.traces.now in
+    let lines = flat_map (trace_lines c.args.template.now) c.args.traces.now in
     let closing = closing_line c.args.how (length c.args.traces.now) in
     let bytes = g.O.Sink.bytes in
     let faults = g.O.Sink.faults in

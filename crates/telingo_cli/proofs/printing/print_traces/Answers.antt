@@ -1,6 +1,5 @@
 use Rattle.std.proofs.Common.{suc, take, drop, ◌++◌, sym, subst, ℕ, List}
 use Rattle.std.specs.List.{flat_map}
-use Rattle.tel_rule.specs.Ground.{atom_names}
 use Rattle.tel_semantics.specs.Print.{trace_lines}
 use Rattle.trace_print.specs.Waiting.{Writes}
 use Rattle.telingo_cli.proofs.Writing.{fault_at, writes-after, writes-short, flat_map_at}
@@ -8,7 +7,7 @@ use Rattle.telingo_cli.proofs.printing.print_traces.Goals as goal
 
 pub returns-in-Err : goal.returns-in-Err
 returns-in-Err g c =
-    let lines = trace_lines (atom_names c.args.template.now.atoms) in
+    let lines = trace_lines c.args.template.now in
     let traces = c.args.traces.now in
     let at = c.loop-trace.trace-index in
     let here = lines c.trace-item.result in

@@ -1,13 +1,18 @@
-use Rattle.std.proofs.Common.{ℕ, ◌<◌, List, sym, ◌∙◌, subst}
-use Rattle.part_syntax.specs.Grammar.{total_bytes}
+use Rattle.std.proofs.Common.{ℕ, ◌<◌, List, length, ap, sym, ◌∙◌, subst, arith}
+use Rattle.part_syntax.specs.Programs.{total_bytes}
 use Rattle.telingo_cli.specs.Reading.{largest_text}
 use Rattle.telingo_cli.specs.Texts.{AreTold, FailedAt, first_place}
 use Rattle.telingo_cli.specs.Delivery.{code_of, Delivers}
 use Rattle.telingo_cli.specs.Verdict.{IsVerdict, read_line}
 use Rattle.telingo_cli.specs.Top.{files_of}
-use Rattle.telingo_cli.proofs.TextSteps.{whole-told}
+use Rattle.telingo_cli.proofs.TextSteps.{told-length, few_files, whole-told}
 use Rattle.telingo_cli.proofs.Verdicts.{long-delivers, delivered-read}
 use Rattle.telingo_cli.proofs.top.answer_files.Goals as goal
+
+pub answer-requires-clause-few : goal.answer-requires-clause-few
+answer-requires-clause-few g c =
+    let each = told-length (g.S.Source.text c.args.texts.now) _ c.in-Ok.read.items c.in-Ok.ensures.whole in
+    omega (arith, each, ap length c.files.ensures, ap length c.as_slice.ensures.value, few_files c.args.settings.now.input c.requires.input)
 
 pub returns-in-Ok-clause-delivers : goal.returns-in-Ok-clause-delivers
 returns-in-Ok-clause-delivers g c = λ whole verdict told _ is.

@@ -1,0 +1,17 @@
+pub mod Chains
+pub mod Choices
+pub mod Dependents
+pub mod Digits
+pub mod Families
+pub mod FormulaFamilies
+pub mod Gathers
+pub mod Levels
+pub mod Manies
+pub mod Nonterminals
+pub mod Onwards
+pub mod Outcomes
+pub mod Places
+pub mod Readers
+pub mod Seen
+pub mod Steady
+pub mod Stood

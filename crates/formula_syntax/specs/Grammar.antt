@@ -1,0 +1,341 @@
+-- The grammar of expressions, atoms and temporal formulas.
+use Rattle.std.specs.Prelude.{ℕ, zero, suc, Bool, true, false, List, [], ◌∷◌, ◌++◌, length, Option, Some, None, pos, if◌then◌else◌, codes}
+use Rattle.std.specs.Option.{option_map}
+use Rattle.std.specs.Str.{bytes_eq}
+use Rattle.tel_term.specs.declared.terms.Term.{Term}
+use Rattle.tel_term.specs.declared.terms.Term.TheVariants as terms
+use Rattle.tel_term.specs.declared.terms.Value.TheVariants as values
+use Rattle.tel_term.specs.declared.exprs.Expr.{Expr}
+use Rattle.tel_term.specs.declared.exprs.Expr.TheVariants as exprs
+use Rattle.tel_term.specs.declared.exprs.SumOp.{SumOp}
+use Rattle.tel_term.specs.declared.exprs.SumOp.TheVariants as sums
+use Rattle.tel_term.specs.declared.exprs.ProductOp.{ProductOp}
+use Rattle.tel_term.specs.declared.exprs.ProductOp.TheVariants as products
+use Rattle.tel_term.specs.Symbols.{with_term, value_of}
+use Rattle.tel_rule.specs.declared.formulas.Atom.{Atom}
+use Rattle.tel_rule.specs.declared.formulas.ConstOp.{ConstOp}
+use Rattle.tel_rule.specs.declared.formulas.ConstOp.TheVariants as consts
+use Rattle.tel_rule.specs.declared.formulas.UnaryOp.{UnaryOp}
+use Rattle.tel_rule.specs.declared.formulas.UnaryOp.TheVariants as unaries
+use Rattle.tel_rule.specs.declared.formulas.BinaryOp.{BinaryOp}
+use Rattle.tel_rule.specs.declared.formulas.BinaryOp.TheVariants as binaries
+use Rattle.tel_rule.specs.declared.formulas.ManyOp.{ManyOp}
+use Rattle.tel_rule.specs.declared.formulas.ManyOp.TheVariants as manies
+use Rattle.tel_rule.specs.declared.formulas.Formula.{Formula}
+use Rattle.tel_rule.specs.declared.formulas.Formula.TheVariants as formulas
+use Rattle.formula_syntax.specs.declared.marks.Mark.TheVariants as marks
+use Rattle.formula_syntax.specs.Points.{Word, Known}
+use Rattle.formula_syntax.specs.Senses.{Sense, Name, Variable, Blank, Number, Str, Sign, sense, number_of, string_of}
+use Rattle.formula_syntax.specs.Shapes.{Grammar, One, Then, Made, Either, Each, AtMost, Maybe}
+
+-- ---- words
+
+-- what a word says by itself, whatever is known
+abbrev pub by_itself : {A : Type 0} → Option A → Option (Known → A × Known)
+by_itself said = option_map (λ thing known. (thing, known)) said
+
+-- a sign that stands for nothing but itself
+abbrev pub plain : Bool → Option (Known → Unit {0} × Known)
+plain true = Some (λ known. (tt, known))
+plain false = None
+
+abbrev pub is_minus : Sense → Bool
+is_minus (Sign marks.Minus) = true
+is_minus said = false
+
+abbrev pub minus : Word → Option (Known → Unit {0} × Known)
+minus word = plain (is_minus (sense word))
+
+abbrev pub is_open : Sense → Bool
+is_open (Sign marks.Open) = true
+is_open said = false
+
+abbrev pub opening : Word → Option (Known → Unit {0} × Known)
+opening word = plain (is_open (sense word))
+
+abbrev pub is_close : Sense → Bool
+is_close (Sign marks.Close) = true
+is_close said = false
+
+abbrev pub closing : Word → Option (Known → Unit {0} × Known)
+closing word = plain (is_close (sense word))
+
+abbrev pub is_comma : Sense → Bool
+is_comma (Sign marks.Comma) = true
+is_comma said = false
+
+abbrev pub comma : Word → Option (Known → Unit {0} × Known)
+comma word = plain (is_comma (sense word))
+
+abbrev pub is_prime : Sense → Bool
+is_prime (Sign marks.Prime) = true
+is_prime said = false
+
+abbrev pub prime : Word → Option (Known → Unit {0} × Known)
+prime word = plain (is_prime (sense word))
+
+abbrev pub is_ampersand : Sense → Bool
+is_ampersand (Sign marks.Ampersand) = true
+is_ampersand said = false
+
+abbrev pub ampersand : Word → Option (Known → Unit {0} × Known)
+ampersand word = plain (is_ampersand (sense word))
+
+abbrev pub is_bar : Sense → Bool
+is_bar (Sign marks.Bar) = true
+is_bar said = false
+
+abbrev pub bar : Word → Option (Known → Unit {0} × Known)
+bar word = plain (is_bar (sense word))
+
+-- ---- expressions
+
+-- a name or a string, which is numbered where it is seen first
+abbrev pub known_term : Term → Known → Expr × Known
+known_term term known = (exprs.Value (value_of known.symbols term), record known { symbols = with_term known.symbols term })
+
+-- the place of a variable among those of the statement, or behind them
+abbrev pub place_in : List ℕ → List (List ℕ) → ℕ
+place_in name [] = 0
+place_in name (first ∷ more) = if bytes_eq name first then 0 else suc (place_in name more)
+
+abbrev pub with_var : List ℕ → List (List ℕ) → List (List ℕ)
+with_var name [] = name ∷ []
+with_var name (first ∷ more) = if bytes_eq name first then first ∷ more else first ∷ with_var name more
+
+abbrev pub known_var : List ℕ → Known → Expr × Known
+known_var name known = (exprs.Var (place_in name known.vars), record known { vars = with_var name known.vars })
+
+-- each `_` is a variable of its own
+abbrev pub new_var : Known → Expr × Known
+new_var known = (exprs.Var (length known.vars), record known { vars = known.vars ++ codes "_" ∷ [] })
+
+-- an expression of one word: a number, a name, a string, a variable or `_`
+abbrev pub leaf_of : Sense → Option (Known → Expr × Known)
+leaf_of (Number text) = option_map (λ value known. (exprs.Value (values.Num (pos value)), known)) (number_of text)
+leaf_of (Name text) = Some (known_term (terms.Name text))
+leaf_of (Str text) = option_map (λ bytes. known_term (terms.Str bytes)) (string_of text)
+leaf_of (Variable name) = Some (known_var name)
+leaf_of Blank = Some new_var
+leaf_of said = None
+
+abbrev pub leaf : Word → Option (Known → Expr × Known)
+leaf word = leaf_of (sense word)
+
+abbrev pub product_op_of : Sense → Option ProductOp
+product_op_of (Sign marks.Star) = Some products.Times
+product_op_of (Sign marks.Slash) = Some products.Divide
+product_op_of (Sign marks.Backslash) = Some products.Remainder
+product_op_of said = None
+
+abbrev pub product_op : Word → Option (Known → ProductOp × Known)
+product_op word = by_itself (product_op_of (sense word))
+
+abbrev pub sum_op_of : Sense → Option SumOp
+sum_op_of (Sign marks.Plus) = Some sums.Plus
+sum_op_of (Sign marks.Minus) = Some sums.Minus
+sum_op_of said = None
+
+abbrev pub sum_op : Word → Option (Known → SumOp × Known)
+sum_op word = by_itself (sum_op_of (sense word))
+
+-- a chain of one operand is this operand
+abbrev pub product_of : Expr × List (ProductOp × Expr) → Expr
+product_of (first, []) = first
+product_of (first, next ∷ more) = exprs.Product first (next ∷ more)
+
+abbrev pub sum_of : Expr × List (SumOp × Expr) → Expr
+sum_of (first, []) = first
+sum_of (first, next ∷ more) = exprs.Sum first (next ∷ more)
+
+-- what stands behind a word, and between two words
+abbrev pub behind : {A B : Type 0} → A × B → B
+behind pair = pair.1
+
+abbrev pub between : {A B C : Type 0} → A × (B × C) → B
+between three = three.1.0
+
+abbrev pub negative_of : {A : Type 0} → A × Expr → Expr
+negative_of pair = exprs.Minus pair.1
+
+-- a word, a thing and a word
+abbrev pub Bracketed : {A : Type 0} → Grammar A → Grammar A
+Bracketed F = Made between (Then (One opening) (Then F (One closing)))
+
+-- product = value { ("*" | "/" | "\\") value }
+abbrev pub ProductOf : Grammar Expr → Grammar Expr
+ProductOf F = Made product_of (Then F (Each (Then (One product_op) F)))
+
+-- sum = product { ("+" | "-") product }
+abbrev pub SumOf : Grammar Expr → Grammar Expr
+SumOf F = Made sum_of (Then F (Each (Then (One sum_op) F)))
+
+-- value = number | name | string | variable | "_" | "-" value | "(" expr ")", where the last two open a level
+unfoldable pub IsValue : ℕ → Grammar Expr
+IsValue zero = One leaf
+IsValue (suc levels) = Either (One leaf) (Either (Made negative_of (Then (One minus) (IsValue levels))) (Bracketed (SumOf (ProductOf (IsValue levels)))))
+
+-- expr = sum, where at most so many levels are open at once
+abbrev pub IsExpr : ℕ → Grammar Expr
+IsExpr levels = SumOf (ProductOf (IsValue levels))
+
+-- ---- atoms
+
+abbrev pub name_of : Sense → Option (List ℕ)
+name_of (Name text) = Some text
+name_of said = None
+
+abbrev pub name : Word → Option (Known → List ℕ × Known)
+name word = by_itself (name_of (sense word))
+
+-- the most arguments behind the first one
+abbrev pub further_arguments : ℕ
+further_arguments = 7
+
+abbrev pub behind_all : {A B : Type 0} → List (A × B) → List B
+behind_all [] = []
+behind_all (pair ∷ pairs) = pair.1 ∷ behind_all pairs
+
+abbrev pub args_of : {W A B C : Type 0} → W × (A × (List (B × A) × C)) → List A
+args_of read = read.1.0 ∷ behind_all read.1.1.0
+
+-- "(" expr { "," expr } ")", with at most eight expressions
+abbrev pub ArgsOf : Grammar Expr → Grammar (List Expr)
+ArgsOf F = Made args_of (Then (One opening) (Then F (Then (AtMost further_arguments (Then (One comma) F)) (One closing))))
+
+abbrev pub is_there : {A : Type 0} → Option A → Bool
+is_there None = false
+is_there (Some thing) = true
+
+abbrev pub count : {A : Type 0} → Option A → ℕ
+count None = 0
+count (Some thing) = 1
+
+abbrev pub args_or_none : Option (List Expr) → List Expr
+args_or_none None = []
+args_or_none (Some args) = args
+
+-- a sign as it is read: a `-`, a prime, a name and a prime
+abbrev pub SignRead : Type 0
+SignRead = Option (Unit {0}) × (Option (Unit {0}) × (List ℕ × Option (Unit {0})))
+
+-- sign = [ "-" ] [ "'" ] name [ "'" ]
+abbrev pub IsSign : Grammar SignRead
+IsSign = Then (Maybe (One minus)) (Then (Maybe (One prime)) (Then (One name) (Maybe (One prime))))
+
+abbrev pub atom_of : SignRead × Option (List Expr) → Atom
+atom_of (sign, args) = record {
+  negative = is_there sign.0;
+  before = count sign.1.0;
+  name = sign.1.1.0;
+  after = count sign.1.1.1;
+  args = args_or_none args;
+}
+
+-- atom = sign [ "(" expr { "," expr } ")" ]
+abbrev pub AtomOf : Grammar Expr → Grammar Atom
+AtomOf F = Made atom_of (Then IsSign (Maybe (ArgsOf F)))
+
+abbrev pub IsAtom : ℕ → Grammar Atom
+IsAtom levels = AtomOf (IsExpr levels)
+
+-- ---- formulas
+
+abbrev pub const_named : List ℕ → Option ConstOp
+const_named name =
+    if bytes_eq name (codes "true") then Some consts.True
+    else (if bytes_eq name (codes "false") then Some consts.False
+    else (if bytes_eq name (codes "initial") then Some consts.Initial
+    else (if bytes_eq name (codes "final") then Some consts.Final else None)))
+
+abbrev pub const_of : Sense → Option ConstOp
+const_of (Name text) = const_named text
+const_of said = None
+
+abbrev pub const_op : Word → Option (Known → ConstOp × Known)
+const_op word = by_itself (const_of (sense word))
+
+abbrev pub prefix_of : Sense → Option UnaryOp
+prefix_of (Sign marks.Tilde) = Some unaries.Not
+prefix_of (Sign marks.Less) = Some unaries.Previous
+prefix_of (Sign marks.LessColon) = Some unaries.WeakPrevious
+prefix_of (Sign marks.LessStar) = Some unaries.AlwaysBefore
+prefix_of (Sign marks.LessQuery) = Some unaries.OnceBefore
+prefix_of (Sign marks.LessLess) = Some unaries.Initially
+prefix_of (Sign marks.Greater) = Some unaries.Next
+prefix_of (Sign marks.GreaterColon) = Some unaries.WeakNext
+prefix_of (Sign marks.GreaterStar) = Some unaries.AlwaysAfter
+prefix_of (Sign marks.GreaterQuery) = Some unaries.OnceAfter
+prefix_of (Sign marks.GreaterGreater) = Some unaries.Finally
+prefix_of said = None
+
+abbrev pub prefix_op : Word → Option (Known → UnaryOp × Known)
+prefix_op word = by_itself (prefix_of (sense word))
+
+abbrev pub pair_op_of : Sense → Option BinaryOp
+pair_op_of (Sign marks.LessQuery) = Some binaries.Since
+pair_op_of (Sign marks.LessStar) = Some binaries.Trigger
+pair_op_of (Sign marks.GreaterQuery) = Some binaries.Until
+pair_op_of (Sign marks.GreaterStar) = Some binaries.Release
+pair_op_of said = None
+
+abbrev pub pair_op : Word → Option (Known → BinaryOp × Known)
+pair_op word = by_itself (pair_op_of (sense word))
+
+abbrev pub arrow_op_of : Sense → Option BinaryOp
+arrow_op_of (Sign marks.RightArrow) = Some binaries.Implies
+arrow_op_of (Sign marks.LeftArrow) = Some binaries.ImpliedBy
+arrow_op_of (Sign marks.BothArrow) = Some binaries.Same
+arrow_op_of said = None
+
+abbrev pub arrow_op : Word → Option (Known → BinaryOp × Known)
+arrow_op word = by_itself (arrow_op_of (sense word))
+
+abbrev pub constant_of : {A : Type 0} → A × ConstOp → Formula
+constant_of pair = formulas.Const pair.1
+
+-- constant = "&" ("true" | "false" | "initial" | "final")
+abbrev pub IsConstant : Grammar Formula
+IsConstant = Made constant_of (Then (One ampersand) (One const_op))
+
+abbrev pub prefixed : UnaryOp × Formula → Formula
+prefixed pair = formulas.Unary pair.0 pair.1
+
+abbrev pub paired : Formula × Option (BinaryOp × Formula) → Formula
+paired (first, None) = first
+paired (first, Some second) = formulas.Binary second.0 first second.1
+
+-- pair = unary [ ("<?" | "<*" | ">?" | ">*") unary ]
+abbrev pub PairOf : Grammar Formula → Grammar Formula
+PairOf F = Made paired (Then F (Maybe (Then (One pair_op) F)))
+
+-- a chain of one formula is this formula
+abbrev pub many_of : {A : Type 0} → ManyOp → Formula × List (A × Formula) → Formula
+many_of op (first, []) = first
+many_of op (first, next ∷ more) = formulas.Many op (first ∷ behind_all (next ∷ more))
+
+-- and = pair { "&" pair }
+abbrev pub AndOf : Grammar Formula → Grammar Formula
+AndOf F = Made (many_of manies.And) (Then F (Each (Then (One ampersand) F)))
+
+-- or = and { "|" and }
+abbrev pub OrOf : Grammar Formula → Grammar Formula
+OrOf F = Made (many_of manies.Or) (Then F (Each (Then (One bar) F)))
+
+-- formula = or [ ("->" | "<-" | "<>") or ]
+abbrev pub ArrowOf : Grammar Formula → Grammar Formula
+ArrowOf F = Made paired (Then F (Maybe (Then (One arrow_op) F)))
+
+abbrev pub FormulaOf : Grammar Formula → Grammar Formula
+FormulaOf F = ArrowOf (OrOf (AndOf (PairOf F)))
+
+-- unary = constant | atom | prefix unary | "(" formula ")", where the last two open a level
+unfoldable pub IsUnary : ℕ → Grammar Formula
+IsUnary zero = Either IsConstant (Made formulas.Atom (IsAtom zero))
+IsUnary (suc levels) =
+    Either (Either IsConstant (Made formulas.Atom (IsAtom (suc levels))))
+    (Either (Made prefixed (Then (One prefix_op) (IsUnary levels))) (Bracketed (FormulaOf (IsUnary levels))))
+
+-- formulas, where at most so many levels are open at once
+abbrev pub IsFormula : ℕ → Grammar Formula
+IsFormula levels = FormulaOf (IsUnary levels)

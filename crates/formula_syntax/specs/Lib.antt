@@ -1,0 +1,9 @@
+pub mod Given
+pub mod Grammar
+pub mod Points
+pub mod Reached
+pub mod Reading
+pub mod Refusals
+pub mod Senses
+pub mod Shapes
+pub mod Steps

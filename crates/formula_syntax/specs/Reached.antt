@@ -1,0 +1,39 @@
+-- What stands at a token, and where tokens stop being a thing, by the places of tokens.
+use Rattle.std.specs.Prelude.{◌≡◌, ℕ, ◌+◌, ◌-◌, ◌≤◌, List, [], length, drop}
+use Rattle.tel_lex.specs.declared.token.Token.{Token}
+use Rattle.tel_term.specs.declared.exprs.Expr.{Expr}
+use Rattle.tel_rule.specs.declared.formulas.Formula.{Formula}
+use Rattle.formula_syntax.specs.declared.names.Names.{Names}
+use Rattle.formula_syntax.specs.Points.{Word, Known, at, words_of}
+use Rattle.formula_syntax.specs.Shapes.{Grammar}
+use Rattle.formula_syntax.specs.Refusals.{Stands, IsSyntax, IsTooDeep}
+use Rattle.formula_syntax.specs.Grammar.{IsExpr, IsFormula}
+use Rattle.formula_syntax.specs.Given.{point_at}
+
+-- from the token at a place up to the one at the end stands this thing, and no longer one
+pub record StandsUpTo {A : Type 0} (F : ℕ → Grammar A) (levels : ℕ) (old new : Names) (tokens : List Token) (place : ℕ) (thing : A) (end : ℕ) : Type 0 where
+  pub from : place ≤ end
+  pub within : end ≤ length tokens
+  pub stands : Stands F levels (point_at old tokens place) thing (point_at new tokens end)
+  pub symbols_room : length new.symbols + (length tokens - end) ≤ length old.symbols + (length tokens - place)
+  pub vars_room : length new.vars + (length tokens - end) ≤ length old.vars + (length tokens - place)
+
+-- the tokens from a place on begin a thing up to this end and are none, and with the token there they begin none
+pub record SyntaxAt {A : Type 0} (F : ℕ → Grammar A) (levels : ℕ) (old : Names) (tokens : List Token) (place end : ℕ) : Type 0 where
+  pub from : place ≤ end
+  pub within : end ≤ length tokens
+  pub stops : IsSyntax F levels (point_at old tokens place) (words_of (drop end tokens))
+
+-- the token at this end opens one level too many
+pub record TooDeepAt {A : Type 0} (F : ℕ → Grammar A) (levels : ℕ) (old : Names) (tokens : List Token) (place end : ℕ) : Type 0 where
+  pub from : place ≤ end
+  pub within : end ≤ length tokens
+  pub stops : IsTooDeep F levels (point_at old tokens place) (words_of (drop end tokens))
+
+-- words are one expression at the most, at whatever levels
+abbrev pub OneExpr : Type 0
+OneExpr = (m n : ℕ) (known later last : Known) (words : List Word) (a b : Expr) → IsExpr m (at known words) a (at later []) → IsExpr n (at known words) b (at last []) → (a ≡ b) × (later ≡ last)
+
+-- and one formula
+abbrev pub OneFormula : Type 0
+OneFormula = (m n : ℕ) (known later last : Known) (words : List Word) (a b : Formula) → IsFormula m (at known words) a (at later []) → IsFormula n (at known words) b (at last []) → (a ≡ b) × (later ≡ last)

@@ -1,0 +1,47 @@
+-- Where a reading ends, and why it is refused. The grammar of a thing stands for each number of levels that may be opened.
+use Rattle.std.specs.Prelude.{◌≡◌, ℕ, List, [], ◌∷◌, ◌++◌}
+use Rattle.formula_syntax.specs.Points.{Word, Known, Point, at}
+use Rattle.formula_syntax.specs.Shapes.{Grammar}
+
+-- with some words behind them the words are a thing
+pub record Begins {A : Type 0} (F : Grammar A) (known : Known) (words : List Word) : Type 0 where
+  pub more : List Word
+  pub thing : A
+  pub later : Known
+  pub reads : F (at known (words ++ more)) thing (at later [])
+
+-- the words are a thing, all of them
+pub record IsWhole {A : Type 0} (F : Grammar A) (known : Known) (words : List Word) : Type 0 where
+  pub thing : A
+  pub later : Known
+  pub reads : F (at known words) thing (at later [])
+
+-- a thing, however many levels are opened
+abbrev pub AtSomeLevel : {A : Type 0} → (ℕ → Grammar A) → Grammar A
+AtSomeLevel F = λ from thing to. (levels : ℕ) × F levels from thing to
+
+-- a thing stands here, and with the word behind it the words begin none
+pub record Stands {A : Type 0} (F : ℕ → Grammar A) (levels : ℕ) (from : Point) (thing : A) (to : Point) : Type 0 where
+  pub reads : F levels from thing to
+  pub front : List Word
+  pub whole : from.words ≡ front ++ to.words
+  pub longest : (word : Word) (behind : List Word) → to.words ≡ word ∷ behind → Begins (AtSomeLevel F) from.known (front ++ word ∷ []) → ⊥
+
+-- the words before the rest begin a thing and are none, and with its first word they begin none
+pub record IsSyntax {A : Type 0} (F : ℕ → Grammar A) (levels : ℕ) (from : Point) (rest : List Word) : Type 0 where
+  pub front : List Word
+  pub whole : from.words ≡ front ++ rest
+  pub begun : Begins (F levels) from.known front
+  pub none : IsWhole (AtSomeLevel F) from.known front → ⊥
+  pub stops : (word : Word) (behind : List Word) → rest ≡ word ∷ behind → Begins (AtSomeLevel F) from.known (front ++ word ∷ []) → ⊥
+
+-- the words before the rest begin a thing; with its first word they begin one too, but none of so few levels
+pub record IsTooDeep {A : Type 0} (F : ℕ → Grammar A) (levels : ℕ) (from : Point) (rest : List Word) : Type 0 where
+  pub front : List Word
+  pub whole : from.words ≡ front ++ rest
+  pub begun : Begins (F levels) from.known front
+  pub word : Word
+  pub behind : List Word
+  pub first : rest ≡ word ∷ behind
+  pub deeper : Begins (AtSomeLevel F) from.known (front ++ word ∷ [])
+  pub none : Begins (F levels) from.known (front ++ word ∷ []) → ⊥

@@ -1,0 +1,74 @@
+/// The signs of the language.
+#[derive(Clone, Copy, Debug, PartialEq, Eq)]
+pub enum Mark {
+    /// `:-`
+    If,
+    /// `..`
+    Dots,
+    /// `.`
+    Stop,
+    /// `,`
+    Comma,
+    /// `;`
+    Semicolon,
+    /// `(`
+    Open,
+    /// `)`
+    Close,
+    /// `{`
+    OpenBrace,
+    /// `}`
+    CloseBrace,
+    /// `'`
+    Prime,
+    /// `~`
+    Tilde,
+    /// `&`
+    Ampersand,
+    /// `|`
+    Bar,
+    /// `->`
+    RightArrow,
+    /// `<-`
+    LeftArrow,
+    /// `<>`
+    BothArrow,
+    /// `<*`
+    LessStar,
+    /// `<?`
+    LessQuery,
+    /// `<:`
+    LessColon,
+    /// `<<`
+    LessLess,
+    /// `<=`
+    LessEqual,
+    /// `<`
+    Less,
+    /// `>*`
+    GreaterStar,
+    /// `>?`
+    GreaterQuery,
+    /// `>:`
+    GreaterColon,
+    /// `>>`
+    GreaterGreater,
+    /// `>=`
+    GreaterEqual,
+    /// `>`
+    Greater,
+    /// `=`
+    Equal,
+    /// `!=`
+    Unequal,
+    /// `+`
+    Plus,
+    /// `-`
+    Minus,
+    /// `*`
+    Star,
+    /// `/`
+    Slash,
+    /// `\`
+    Backslash,
+}

@@ -1,0 +1,84 @@
+-- Grammars that are read: with the words that their things begin and go on with, and one level more.
+use Rattle.std.proofs.Common.{ℕ, Bool, List, [], ◌∷◌, Option, refl}
+use Rattle.formula_syntax.specs.Points.{Word, Known, Point}
+use Rattle.formula_syntax.specs.Shapes.{Grammar, One, Then, Made, Either, Each, AtMost, Maybe, After}
+use Rattle.formula_syntax.specs.Steps.{Reader, made, one, both, either, at_most, each, maybe, after, passes, or_also}
+use Rattle.formula_syntax.proofs.Dependents.{after-reads, after-starts}
+use Rattle.formula_syntax.proofs.Readers.{Near, Reads, Starts, Opens, nothing, one-reads, one-starts, made-reads, made-starts, both-reads, both-reads_on, both-starts, both-starts_on, either-reads, either-starts, maybe-reads, maybe-opens, at_most-reads, at_most-opens, each-reads, each-opens}
+use Rattle.formula_syntax.proofs.Levels.{each-raises, after-raises}
+use Rattle.formula_syntax.proofs.Nonterminals.{Known_by, Lifts, Apart, Passing, made-lifts, then-lifts, operand-lifts}
+
+pub record Read_by {A : Type 0} (F : Grammar A) (read : Reader A) (starts more : Word → Bool) : Type 0 where
+  pub reads : Reads F read more
+  pub begun : Starts F starts
+
+-- of things that may take no word
+pub record Opened_by {A : Type 0} (F : Grammar A) (read : Reader A) (starts more : Word → Bool) : Type 0 where
+  pub reads : Reads F read more
+  pub opens : Opens F starts
+
+pub known-read : {A : Type 0} (F : Grammar A) (read : Reader A) (starts more : Word → Bool) → Known_by F read starts more → Read_by F read starts more
+known-read F read starts more k = record { reads = k.reads; begun = k.begun }
+
+pub one-read : {A : Type 0} (value : Word → Option (Known → A × Known)) → Passing value → Read_by (One value) (one value) (passes value) nothing
+one-read value p = record { reads = one-reads value p.word p.make p.gives; begun = one-starts value }
+
+pub made-read : {A B : Type 0} (make : A → B) (F : Grammar A) (read : Reader A) (starts more : Word → Bool) → Read_by F read starts more → Read_by (Made make F) (made make read) starts more
+made-read make F read starts more k = record { reads = made-reads make F read more k.reads; begun = made-starts make F starts k.begun }
+
+pub then-read : {A B : Type 0} (F : Grammar A) (G : Grammar B) (first : Reader A) (second : Reader B) (startsF moreF startsG moreG : Word → Bool) → Read_by F first startsF moreF → Read_by G second startsG moreG → Apart startsG moreF → Read_by (Then F G) (both first second) startsF moreG
+then-read F G first second startsF moreF startsG moreG f g apart = record { reads = both-reads F G first second moreF moreG startsG f.reads g.reads g.begun apart; begun = both-starts F G second startsF moreG f.begun g.reads }
+
+pub then-read_on : {A B : Type 0} (F : Grammar A) (G : Grammar B) (first : Reader A) (second : Reader B) (startsF moreF startsG moreG : Word → Bool) → Read_by F first startsF moreF → Opened_by G second startsG moreG → Apart startsG moreF → Read_by (Then F G) (both first second) startsF (or_also moreF moreG)
+then-read_on F G first second startsF moreF startsG moreG f g apart = record { reads = both-reads_on F G first second moreF moreG startsG f.reads g.reads g.opens apart; begun = both-starts F G second startsF moreG f.begun g.reads }
+
+pub then-read_from : {A B : Type 0} (F : Grammar A) (G : Grammar B) (first : Reader A) (second : Reader B) (startsF moreF startsG moreG : Word → Bool) → Opened_by F first startsF moreF → Read_by G second startsG moreG → Apart startsG moreF → Read_by (Then F G) (both first second) (or_also startsF startsG) moreG
+then-read_from F G first second startsF moreF startsG moreG f g apart = record { reads = both-reads F G first second moreF moreG startsG f.reads g.reads g.begun apart; begun = both-starts_on F G first moreF startsF startsG f.reads f.opens g.begun }
+
+pub either-read : {A : Type 0} (F G : Grammar A) (first second : Reader A) (startsF moreF startsG moreG : Word → Bool) → Read_by F first startsF moreF → Read_by G second startsG moreG → Apart startsG startsF → Read_by (Either F G) (either startsF first second) (or_also startsF startsG) (or_also moreF moreG)
+either-read F G first second startsF moreF startsG moreG f g apart = record { reads = either-reads F G first second moreF moreG startsF startsG f.reads g.reads f.begun g.begun apart; begun = either-starts F G startsF startsG f.begun g.begun }
+
+pub maybe-opened : {A : Type 0} (F : Grammar A) (read : Reader A) (starts more : Word → Bool) → Read_by F read starts more → Opened_by (Maybe F) (maybe starts read) starts (or_also starts more)
+maybe-opened F read starts more k = record { reads = maybe-reads F read more starts k.reads k.begun; opens = maybe-opens F starts k.begun }
+
+-- an operator and what stands behind it
+pub operand-read : {A B : Type 0} (op : Word → Option (Known → A × Known)) (F : Grammar B) (read : Reader B) (starts more : Word → Bool) → Passing op → Read_by F read starts more → Read_by (Then (One op) F) (both (one op) read) (passes op) more
+operand-read op F read starts more p k = then-read (One op) F (one op) read (passes op) nothing starts more (one-read op p) k (λ word is. refl)
+
+pub each-opened : {A : Type 0} (F : Grammar A) (read : Reader A) (starts more : Word → Bool) → Read_by F read starts more → Apart starts more → Opened_by (Each F) (each starts read) starts (or_also starts more)
+each-opened F read starts more k apart = record { reads = each-reads F read more starts k.reads k.begun apart; opens = each-opens F starts k.begun }
+
+pub at_most-opened : {A : Type 0} (most : ℕ) (F : Grammar A) (read : Reader A) (starts more : Word → Bool) → Read_by F read starts more → Apart starts more → Opened_by (AtMost most F) (at_most most starts read) starts (or_also starts more)
+at_most-opened most F read starts more k apart = record { reads = at_most-reads most F read more starts k.reads k.begun apart; opens = at_most-opens most F starts k.begun }
+
+each-wider : {A : Type 0} (F G : Grammar A) → ((from : Point) (thing : A) (to : Point) → F from thing to → G from thing to) → (from : Point) (things : List A) (to : Point) → Each F from things to → Each G from things to
+each-wider F G wider from [] to same = same
+each-wider F G wider from (thing ∷ things) to r = (r.0, wider from thing r.0 r.1, each-wider F G wider r.0 things to r.2)
+
+pub each-lifts : {A : Type 0} (F G : Grammar A) (read higher : Reader A) (starts more : Word → Bool) → Lifts F G read higher → Read_by G higher starts more → Lifts (Each F) (Each G) (each starts read) (each starts higher)
+each-lifts F G read higher starts more l k = record { raises = each-raises G read higher more starts k.reads k.begun l.raises; wider = each-wider F G l.wider }
+
+-- a chain of operands, each but the first behind an operator
+pub chain-read : {A B C : Type 0} (make : B × List (A × B) → C) (op : Word → Option (Known → A × Known)) (F : Grammar B) (read : Reader B) (starts more : Word → Bool) → Passing op → Read_by F read starts more → Apart (passes op) more → Read_by (Made make (Then F (Each (Then (One op) F)))) (made make (both read (each (passes op) (both (one op) read)))) starts (or_also more (or_also (passes op) more))
+chain-read make op F read starts more p k apart =
+    made-read make (Then F (Each (Then (One op) F))) (both read (each (passes op) (both (one op) read))) starts (or_also more (or_also (passes op) more))
+    (then-read_on F (Each (Then (One op) F)) read (each (passes op) (both (one op) read)) starts more (passes op) (or_also (passes op) more) k
+    (each-opened (Then (One op) F) (both (one op) read) (passes op) more (operand-read op F read starts more p k) apart) apart)
+
+pub chain-lifts : {A B C : Type 0} (make : B × List (A × B) → C) (op : Word → Option (Known → A × Known)) (F G : Grammar B) (read higher : Reader B) (starts more : Word → Bool) → Passing op → Lifts F G read higher → Read_by G higher starts more → Lifts (Made make (Then F (Each (Then (One op) F)))) (Made make (Then G (Each (Then (One op) G)))) (made make (both read (each (passes op) (both (one op) read)))) (made make (both higher (each (passes op) (both (one op) higher))))
+chain-lifts make op F G read higher starts more p l k =
+    made-lifts make (Then F (Each (Then (One op) F))) (Then G (Each (Then (One op) G))) (both read (each (passes op) (both (one op) read))) (both higher (each (passes op) (both (one op) higher)))
+    (then-lifts F G (Each (Then (One op) F)) (Each (Then (One op) G)) read higher (each (passes op) (both (one op) read)) (each (passes op) (both (one op) higher)) l
+    (each-lifts (Then (One op) F) (Then (One op) G) (both (one op) read) (both (one op) higher) (passes op) more (operand-lifts op F G read higher p l) (operand-read op G higher starts more p k)) k.reads.near)
+
+pub after-read : {A B : Type 0} (F : Grammar A) (G : A → Grammar B) (first : Reader A) (second : A → Reader B) (startsF moreF startsG moreG : Word → Bool) → Read_by F first startsF moreF → ((a : A) → Read_by (G a) (second a) startsG moreG) → Apart startsG moreF → Read_by (After F G) (after first second) startsF moreG
+after-read F G first second startsF moreF startsG moreG f g apart = record {
+  reads = after-reads F G first second moreF moreG startsG f.reads (λ a. (g a).reads) (λ a. (g a).begun) apart;
+  begun = after-starts F G startsF f.begun (λ a. (g a).reads.framed);
+}
+
+pub after-lifts : {A B : Type 0} (F F' : Grammar A) (G G' : A → Grammar B) (first first' : Reader A) (second second' : A → Reader B) → Lifts F F' first first' → ((a : A) → Lifts (G a) (G' a) (second a) (second' a)) → ((from : Point) → Near first' from (first' from)) → Lifts (After F G) (After F' G') (after first second) (after first' second')
+after-lifts F F' G G' first first' second second' f g near = record {
+  raises = after-raises first first' second second' f.raises (λ a. (g a).raises) near;
+  wider = λ from thing to t. record { of = t.of; middle = t.middle; first = f.wider from t.of t.middle t.first; second = (g t.of).wider t.middle thing to t.second };
+}

@@ -1,0 +1,7 @@
+use Rattle.part_syntax.proofs.Enclosed.{tuples_opened}
+use Rattle.part_syntax.proofs.facts.tuples.Goals as goal
+
+pub returns-clause-reads : goal.returns-clause-reads
+returns-clause-reads c =
+    let e = tuples_opened c.args.levels c.args.reading.now c.opening.new.reading c.in_ok-opening.ensures.reads in
+    rw e c.closed_tuples.ensures.reads

@@ -1,7 +1,0 @@
-use Rattle.std.proofs.Common.{◌≡◌, ◌+◌, drop}
-use Rattle.std.specs.List.{prefix_len}
-use Rattle.part_syntax.specs.Tokens.{is_name_byte}
-use Rattle.part_syntax.proofs.lexer.name_len.Given as goal
-
-abbrev pub invariant-loop-place : goal.invariant-loop-place
-invariant-loop-place l = l.place + prefix_len is_name_byte (drop l.place l.bytes) ≡ prefix_len is_name_byte l.bytes

@@ -1,0 +1,32 @@
+use Rattle.std.proofs.Common.{◌≡◌, ◌+◌, ◌-◌, suc, arith, rules}
+use Rattle.std.proofs.lemmas.Result.{err_from_is_err_and}
+use Rattle.formula_syntax.specs.Steps.{one, both, passes}
+use Rattle.part_syntax.specs.Grammar.{separator}
+use Rattle.part_syntax.specs.Reading.{read_literal}
+use Rattle.part_syntax.proofs.Rows.{rows_each, rows_end, rows_more, rows_stop}
+use Rattle.part_syntax.proofs.literals.body.Goals as goal
+
+pub loop-turn-init : goal.loop-turn-init
+loop-turn-init c =
+    record {
+      reads = rows_each (passes separator) (both (one separator) (read_literal c.args.levels)) (read_literal c.args.levels) c.args.reading.now c.literal.new.reading c.in_ok-first.first _ _ c.in_ok-first.ensures.reads (search rules) (omega arith);
+      room = omega (arith, c.in_ok-first.ensures.room);
+    }
+
+pub returns-then-not-at_separator-clause-reads : goal.returns-then-not-at_separator-clause-reads
+returns-then-not-at_separator-clause-reads c =
+    rows_end (passes separator) (both (one separator) (read_literal c.args.levels)) _ c.loop-turn.body c.loop-turn.reading _ c.loop-turn.invariant.reads (search rules)
+
+pub returns-in_err-next-clause-reads : goal.returns-in_err-next-clause-reads
+returns-in_err-next-clause-reads c =
+    let next : c.left-turn-end.result - c.loop-turn._turn ≡ suc (c.left-turn-end.result - (c.loop-turn._turn + 1)) = omega arith in
+    let p = err_from_is_err_and c.from_residual-in_err-next.result c.from_residual-in_err-next.ensures.1 in
+    rw (p.1, p.2) (rows_stop (passes separator) (both (one separator) (read_literal c.args.levels)) _ c.loop-turn.body c.loop-turn.reading c.next_literal.new.reading _ _ _ c.loop-turn.invariant.reads next (search rules) c.in_err-next.ensures.reads)
+
+pub loop-turn-preserved : goal.loop-turn-preserved
+loop-turn-preserved c =
+    let next : c.left-turn-end.result - c.loop-turn._turn ≡ suc (c.left-turn-end.result - (c.loop-turn._turn + 1)) = omega arith in
+    record {
+      reads = rows_more (passes separator) (both (one separator) (read_literal c.args.levels)) _ c.loop-turn.body _ c.loop-turn.reading c.next_literal.new.reading c.in_ok-next.next _ _ c.loop-turn.invariant.reads next (search rules) c.in_ok-next.ensures.reads c.in_ok-push-2.ensures.ok;
+      room = omega (arith, c.in_ok-next.ensures.room, c.loop-turn.invariant.room);
+    }

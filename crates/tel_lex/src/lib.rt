@@ -1,0 +1,15 @@
+//! The tokens of a text, with their places.
+#![tactic(auto)]
+
+mod bytes;
+mod fault;
+mod front;
+mod places;
+mod scan;
+#[cfg(test)]
+mod tests;
+mod token;
+
+pub use fault::LexFault;
+pub use scan::{lex, one_reading, tokens};
+pub use token::{Lexed, Token, TokenKind};

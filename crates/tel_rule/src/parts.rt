@@ -1,0 +1,12 @@
+/// At which instants of a trace a statement is demanded.
+#[derive(Clone, Copy, Debug, PartialEq, Eq)]
+pub enum Part {
+    /// At instant 0.
+    Initial,
+    /// At every instant above 0.
+    Dynamic,
+    /// At every instant.
+    Always,
+    /// At the last instant.
+    Final,
+}

@@ -1,0 +1,74 @@
+//! Names and strings under numbers.
+ghost use Rattle.std.specs.Prelude.{◌≡◌, ◌+◌, ◌-◌, ◌^◌, ◌<◌, ◌≤◌, [], length, Some, slice_get, IfOk, OnOk, OnErr};
+ghost use Rattle.tel_term.specs.Symbols.{IsTable, with_term, value_of};
+
+use crate::terms::{Term, Value};
+use indexmap::IndexSet;
+use std::alloc::Global;
+use std::marker::Model;
+use tel_base::Memory;
+
+/// The names and strings that were asked for, numbered from 0 in the order in which they were first
+/// seen. Contracts see them as their list, in this order.
+#[derive(Drop)]
+pub struct Symbols {
+    terms: IndexSet<Term>,
+}
+
+impl Model for Symbols {
+    ghost use Rattle.std.specs.Prelude.{List};
+    ghost use Rattle.tel_term.specs.declared.terms.Term.{Term};
+    ghost use Rattle.tel_term.specs.Symbols.{IsTable};
+
+    ghost Value = { List Term };
+
+    ghost view = { λ symbols. symbols.terms.keys };
+
+    ghost invariant = { λ symbols. IsTable symbols.terms.keys };
+}
+
+impl Symbols {
+    /// The empty table. It takes no memory.
+    pub fn new(alloc: Global) -> Symbols
+        ensures { result ≡ [] }
+    {
+        Symbols {
+            terms: IndexSet::new(alloc),
+        }
+    }
+
+    /// How many names and strings have a number.
+    pub fn len(&self) -> u32
+        ensures count { result ≡ length self.now }
+        ensures table { IsTable self.now }
+    {
+        self.terms.len() as u32
+    }
+
+    /// The value of a term: a number stands for itself, and a name or a string gets its number, a
+    /// new one the next number. Want of memory changes nothing.
+    pub fn value(&mut self, term: Term) -> Result<Value, Memory>
+        requires { length self.old < 2 ^ 32 - 1 }
+        ensures value { IfOk result (λ value. value ≡ value_of self.old term) }
+        ensures table { OnOk result (self.new ≡ with_term self.old term) }
+        ensures room { length self.new ≤ length self.old + 1 }
+        ensures err { OnErr result (self.new ≡ self.old) }
+    {
+        if let Term::Num(number) = term {
+            return Ok(Value::Num(number));
+        }
+        let (place, _) = match self.terms.insert_full(term) {
+            Ok(found) => found,
+            Err(_) => return Err(Memory),
+        };
+        Ok(Value::Sym(place as u32))
+    }
+
+    /// The name or string with this number.
+    pub fn term(&self, symbol: u32) -> &Term
+        requires { symbol < length self.now }
+        ensures { slice_get self.now symbol ≡ Some result.now }
+    {
+        &self.terms.as_slice()[symbol as usize]
+    }
+}
