@@ -87,7 +87,7 @@ more_product = or_also nothing (or_also (passes product_op) nothing)
 abbrev pub more_sum : Word → Bool
 more_sum = or_also more_product (or_also (passes sum_op) more_product)
 
-minus-leaf_of : (s : Sense) → is_some (plain (is_minus s)) ≡ true → is_some (leaf_of s) ≡ false
+pub minus-leaf_of : (s : Sense) → is_some (plain (is_minus s)) ≡ true → is_some (leaf_of s) ≡ false
 minus-leaf_of (Sign marks.Minus) is = refl
 minus-leaf_of _ is = absurd (false≢true is)
 

@@ -24,11 +24,11 @@ use Rattle.formula_syntax.proofs.Families.{passing-minus, passing-opening, passi
 
 -- ---- signs
 
-prime-name_of : (s : Sense) → is_some (by_itself (name_of s)) ≡ true → is_some (plain (is_prime s)) ≡ false
+pub prime-name_of : (s : Sense) → is_some (by_itself (name_of s)) ≡ true → is_some (plain (is_prime s)) ≡ false
 prime-name_of (Name text) is = refl
 prime-name_of _ is = absurd (false≢true is)
 
-minus-name_of : (s : Sense) → is_some (by_itself (name_of s)) ≡ true → is_some (plain (is_minus s)) ≡ false
+pub minus-name_of : (s : Sense) → is_some (by_itself (name_of s)) ≡ true → is_some (plain (is_minus s)) ≡ false
 minus-name_of (Name text) is = refl
 minus-name_of _ is = absurd (false≢true is)
 
@@ -128,7 +128,7 @@ args_at-lifts most F G read higher l k =
 abbrev pub more_atom : Word → Bool
 more_atom = or_also more_sign (or_also (passes opening) nothing)
 
-opening-prime_of : (s : Sense) → is_some (plain (is_open s)) ≡ true → is_some (plain (is_prime s)) ≡ false
+pub opening-prime_of : (s : Sense) → is_some (plain (is_open s)) ≡ true → is_some (plain (is_prime s)) ≡ false
 opening-prime_of (Sign marks.Open) is = refl
 opening-prime_of _ is = absurd (false≢true is)
 

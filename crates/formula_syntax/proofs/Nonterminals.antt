@@ -123,7 +123,7 @@ operands-optional op F read starts more p k apart =
       moves = each-moves (Then (One op) F) (both (one op) read) more (passes op) item.reads item.begun takes;
     }
 
-each-wider : {A : Type 0} (F G : Grammar A) → ((from : Point) (thing : A) (to : Point) → F from thing to → G from thing to) → (from : Point) (things : List A) (to : Point) → Each F from things to → Each G from things to
+pub each-wider : {A : Type 0} (F G : Grammar A) → ((from : Point) (thing : A) (to : Point) → F from thing to → G from thing to) → (from : Point) (things : List A) (to : Point) → Each F from things to → Each G from things to
 each-wider F G wider from [] to same = same
 each-wider F G wider from (thing ∷ things) to r = (r.0, wider from thing r.0 r.1, each-wider F G wider r.0 things to r.2)
 

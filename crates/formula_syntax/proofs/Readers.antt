@@ -212,7 +212,7 @@ one-reads value word make is = record {
   lives = one-lives value word make is;
 }
 
-one-starts_in : {A : Type 0} (value : Word → Option (Known → A × Known)) (word : Word) (make : Known → A × Known) → value word ≡ Some make → passes value word ≡ true
+pub one-starts_in : {A : Type 0} (value : Word → Option (Known → A × Known)) (word : Word) (make : Known → A × Known) → value word ≡ Some make → passes value word ≡ true
 one-starts_in value word make is = ap is_some is
 
 pub one-starts : {A : Type 0} (value : Word → Option (Known → A × Known)) → Starts (One value) (passes value)

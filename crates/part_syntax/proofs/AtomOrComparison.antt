@@ -14,32 +14,20 @@ use Rattle.formula_syntax.specs.Shapes.{Grammar, One, Then, Either, Each, Maybe}
 use Rattle.formula_syntax.specs.Steps.{Unexpected, Deep, Read, Got, Stuck, Reader, rest_of, and_then, give, map_read, made, one, both, each, maybe, passes, or_also}
 use Rattle.formula_syntax.specs.Grammar.{plain, by_itself, leaf, leaf_of, minus, is_minus, opening, is_open, prime, is_prime, name, name_of, product_op, product_op_of, sum_op, sum_op_of, negative_of, product_of, sum_of, SignRead, IsSign, atom_of, IsValue, IsExpr, IsAtom, ProductOf, ArgsOf}
 use Rattle.formula_syntax.specs.Reading.{read_value, read_product, read_negative, read_expr, read_sign, read_args, read_atom, starts_atom}
-use Rattle.formula_syntax.proofs.Readers.{head, Near, Reads, begins-head, begins-front, rest-map, either-got, goes-inl, goes-inr, framed-inl, framed-inr, nothing, ends-first, ends-second, either-starts, not-ends}
+use Rattle.formula_syntax.proofs.Readers.{head, one-starts_in, Near, Reads, begins-head, begins-front, rest-map, either-got, goes-inl, goes-inr, framed-inl, framed-inr, nothing, ends-first, ends-second, either-starts, not-ends}
 use Rattle.formula_syntax.proofs.Levels.{Deeper, Raised}
 use Rattle.formula_syntax.proofs.Nonterminals.{Known_by, Lifts, Apart, Passing, word-optional, operand-known, operand-lifts, operands-optional, made-known, made-lifts, then-known, then-lifts}
 use Rattle.part_syntax.proofs.ReadBy.{Read_by}
-use Rattle.formula_syntax.proofs.Families.{starts_value, more_sum, value-known, expr-known, expr-lifts, passing-prime, passing-product_op, sums-optional, sign_word, not-sum}
-use Rattle.formula_syntax.proofs.FormulaFamilies.{more_atom, atom-known, atom-lifts, primed-known, args-optional}
+use Rattle.formula_syntax.proofs.Families.{minus-leaf_of, starts_value, more_sum, value-known, expr-known, expr-lifts, passing-prime, passing-product_op, sums-optional, sign_word, not-sum}
+use Rattle.formula_syntax.proofs.FormulaFamilies.{prime-name_of, minus-name_of, more_atom, atom-known, atom-lifts, primed-known, args-optional}
 use Rattle.part_syntax.specs.Grammar.{relation, relation_of, compare_of, IsAtomItem, IsComparison}
 use Rattle.part_syntax.specs.Reading.{starts_plain, goes_on, compares_behind, compares, read_plain, read_atom_item, read_comparison}
 
 -- ---- words
 
-name-minus_of : (s : Sense) → is_some (by_itself (name_of s)) ≡ true → is_some (plain (is_minus s)) ≡ false
-name-minus_of (Name text) is = refl
-name-minus_of _ is = absurd (false≢true is)
-
-name-prime_of : (s : Sense) → is_some (by_itself (name_of s)) ≡ true → is_some (plain (is_prime s)) ≡ false
-name-prime_of (Name text) is = refl
-name-prime_of _ is = absurd (false≢true is)
-
 name-leaf_of : (s : Sense) → is_some (by_itself (name_of s)) ≡ true → is_some (leaf_of s) ≡ true
 name-leaf_of (Name text) is = refl
 name-leaf_of _ is = absurd (false≢true is)
-
-minus-leaf_of : (s : Sense) → is_some (plain (is_minus s)) ≡ true → is_some (leaf_of s) ≡ false
-minus-leaf_of (Sign marks.Minus) is = refl
-minus-leaf_of _ is = absurd (false≢true is)
 
 pub passing-relation : Passing relation
 passing-relation = record { word = sign_word (codes "="); make = λ known. (relations.Equal, known); gives = refl }
@@ -184,7 +172,7 @@ abbrev read_named : Reader (List ℕ × Option (Unit {0}))
 read_named = both (one name) (maybe (passes prime) (one prime))
 
 not-primed : (word : Word) (words : List Word) → passes name word ≡ true → begins (passes prime) (word ∷ words) ≡ false
-not-primed word words is = name-prime_of (sense word) is
+not-primed word words is = prime-name_of (sense word) is
 
 primed-takes : (known : Known) (word : Word) (words : List Word) → passes name word ≡ true → length (rest_of (read_primed (at known (word ∷ words)))) ≤ length words
 primed-takes known word words is =
@@ -318,11 +306,8 @@ goes_on-prime_of _ is = absurd (false≢true is)
 not-goes_on : (word : Word) → (passes product_op word ≡ false) × (passes sum_op word ≡ false) × (passes relation word ≡ false) → goes_on word ≡ false
 not-goes_on word a = rw (a.0, a.1, a.2) refl
 
-some-passes : {A : Type 0} (value : Word → Option (Known → A × Known)) (word : Word) (make : Known → A × Known) → value word ≡ Some make → passes value word ≡ true
-some-passes value word make is = ap is_some is
-
 one-begins : {A : Type 0} (value : Word → Option (Known → A × Known)) (test : Word → Bool) (b : Bool) → ((word : Word) → passes value word ≡ true → test word ≡ b) → (from : Point) (thing : A) (to : Point) → One value from thing to → begins test from.words ≡ b
-one-begins value test b same from thing to o = ap (begins test) o.first ∙ same o.word (some-passes value o.word o.make o.gives)
+one-begins value test b same from thing to o = ap (begins test) o.first ∙ same o.word (one-starts_in value o.word o.make o.gives)
 
 opening-ends : (word : Word) → passes opening word ≡ true → goes_on word ≡ false
 opening-ends word is = not-goes_on word (goes_on-opening_of (sense word) is)
@@ -352,7 +337,7 @@ name-alone from thing to t end = record {
   word = t.first.word;
   behind = t.middle.words;
   is = t.first.first;
-  named = some-passes name t.first.word t.first.make t.first.gives;
+  named = one-starts_in name t.first.word t.first.make t.first.gives;
   alone = prime-then_ends t.middle thing.1 to t.second end;
 }
 
@@ -365,7 +350,7 @@ alone-no : (words : List Word) → NameAlone words → NoComparison words
 unfolding compares
 alone-no words a = record {
   behind = rw (a.is, a.named) a.alone;
-  first = let n : passes minus a.word ≡ false = name-minus_of (sense a.word) a.named in rw (a.is, n, a.named) a.alone;
+  first = let n : passes minus a.word ≡ false = minus-name_of (sense a.word) a.named in rw (a.is, n, a.named) a.alone;
 }
 
 prime-plain_of : (s : Sense) → is_some (plain (is_prime s)) ≡ true → (is_some (plain (is_minus s)) ≡ false) × (is_some (by_itself (name_of s)) ≡ false)
@@ -382,7 +367,7 @@ prime-no word words is =
 
 primed-no : (from : Point) (before : Option (Unit {0})) (middle : Point) → Maybe (One prime) from before middle → NoComparison middle.words → NoComparison from.words
 primed-no from None middle same no_more = subst (λ (p : Point). NoComparison p.words) (sym same) no_more
-primed-no from (Some before) middle r no_more = subst (λ (ws : List Word). NoComparison ws) (sym r.first) (prime-no r.word middle.words (some-passes prime r.word r.make r.gives))
+primed-no from (Some before) middle r no_more = subst (λ (ws : List Word). NoComparison ws) (sym r.first) (prime-no r.word middle.words (one-starts_in prime r.word r.make r.gives))
 
 negative-no : (word : Word) (words : List Word) → passes minus word ≡ true → NoComparison words → compares (word ∷ words) ≡ false
 unfolding compares
@@ -390,7 +375,7 @@ negative-no word words is no_more = rw is no_more.behind
 
 negated-no : (from : Point) (negative : Option (Unit {0})) (middle : Point) → Maybe (One minus) from negative middle → NoComparison middle.words → compares from.words ≡ false
 negated-no from None middle same no_more = ap (λ (p : Point). compares p.words) same ∙ no_more.first
-negated-no from (Some negative) middle r no_more = ap compares r.first ∙ negative-no r.word middle.words (some-passes minus r.word r.make r.gives) no_more
+negated-no from (Some negative) middle r no_more = ap compares r.first ∙ negative-no r.word middle.words (one-starts_in minus r.word r.make r.gives) no_more
 
 sign-compares : (from : Point) (sign : SignRead) (to : Point) → IsSign from sign to → begins goes_on to.words ≡ false → compares from.words ≡ false
 sign-compares from sign to t end =
@@ -467,7 +452,7 @@ minus-comparing word words is on =
     record { behind = rw (n, p) refl; first = rw is on }
 
 one-comparing : {A : Type 0} (value : Word → Option (Known → A × Known)) (from : Point) (thing : A) (to : Point) → One value from thing to → ((word : Word) → passes value word ≡ true → Comparing (word ∷ to.words)) → Comparing from.words
-one-comparing value from thing to o made_by = subst (λ (ws : List Word). Comparing ws) (sym o.first) (made_by o.word (some-passes value o.word o.make o.gives))
+one-comparing value from thing to o made_by = subst (λ (ws : List Word). Comparing ws) (sym o.first) (made_by o.word (one-starts_in value o.word o.make o.gives))
 
 value-comparing : (n : ℕ) (from : Point) (value : Expr) (to : Point) → IsValue n from value to → begins goes_on to.words ≡ true → Comparing from.words
 unfolding IsValue

@@ -1,12 +1,12 @@
 -- Grammars that are read: with the words that their things begin and go on with, and one level more.
-use Rattle.std.proofs.Common.{ℕ, Bool, List, [], ◌∷◌, Option, refl}
+use Rattle.std.proofs.Common.{ℕ, Bool, List, Option, refl}
 use Rattle.formula_syntax.specs.Points.{Word, Known, Point}
 use Rattle.formula_syntax.specs.Shapes.{Grammar, One, Then, Made, Either, Each, AtMost, Maybe, After}
 use Rattle.formula_syntax.specs.Steps.{Reader, made, one, both, either, at_most, each, maybe, after, passes, or_also}
 use Rattle.formula_syntax.proofs.Dependents.{after-reads, after-starts}
 use Rattle.formula_syntax.proofs.Readers.{Near, Reads, Starts, Opens, nothing, one-reads, one-starts, made-reads, made-starts, both-reads, both-reads_on, both-starts, both-starts_on, either-reads, either-starts, maybe-reads, maybe-opens, at_most-reads, at_most-opens, each-reads, each-opens}
 use Rattle.formula_syntax.proofs.Levels.{each-raises, after-raises}
-use Rattle.formula_syntax.proofs.Nonterminals.{Known_by, Lifts, Apart, Passing, made-lifts, then-lifts, operand-lifts}
+use Rattle.formula_syntax.proofs.Nonterminals.{Known_by, Lifts, Apart, Passing, each-wider, made-lifts, then-lifts, operand-lifts}
 
 pub record Read_by {A : Type 0} (F : Grammar A) (read : Reader A) (starts more : Word → Bool) : Type 0 where
   pub reads : Reads F read more
@@ -50,10 +50,6 @@ each-opened F read starts more k apart = record { reads = each-reads F read more
 
 pub at_most-opened : {A : Type 0} (most : ℕ) (F : Grammar A) (read : Reader A) (starts more : Word → Bool) → Read_by F read starts more → Apart starts more → Opened_by (AtMost most F) (at_most most starts read) starts (or_also starts more)
 at_most-opened most F read starts more k apart = record { reads = at_most-reads most F read more starts k.reads k.begun apart; opens = at_most-opens most F starts k.begun }
-
-each-wider : {A : Type 0} (F G : Grammar A) → ((from : Point) (thing : A) (to : Point) → F from thing to → G from thing to) → (from : Point) (things : List A) (to : Point) → Each F from things to → Each G from things to
-each-wider F G wider from [] to same = same
-each-wider F G wider from (thing ∷ things) to r = (r.0, wider from thing r.0 r.1, each-wider F G wider r.0 things to r.2)
 
 pub each-lifts : {A : Type 0} (F G : Grammar A) (read higher : Reader A) (starts more : Word → Bool) → Lifts F G read higher → Read_by G higher starts more → Lifts (Each F) (Each G) (each starts read) (each starts higher)
 each-lifts F G read higher starts more l k = record { raises = each-raises G read higher more starts k.reads k.begun l.raises; wider = each-wider F G l.wider }

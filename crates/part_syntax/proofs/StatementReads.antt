@@ -9,15 +9,15 @@ use Rattle.tel_rule.specs.declared.statements.Arg.{Arg}
 use Rattle.tel_rule.specs.declared.statements.Fact.{Fact}
 use Rattle.formula_syntax.specs.declared.marks.Mark.TheVariants as marks
 use Rattle.formula_syntax.specs.Points.{Word}
-use Rattle.formula_syntax.specs.Senses.{Sense, Name, Program, Const, Show, Sign, sense}
+use Rattle.formula_syntax.specs.Senses.{Sense, Program, Const, Show, Sign, sense}
 use Rattle.formula_syntax.specs.Shapes.{Grammar, One, Then, Made, Either, Each, AtMost, Maybe}
 use Rattle.formula_syntax.specs.Steps.{Reader, made, one, both, either, at_most, each, maybe, passes, or_also}
-use Rattle.formula_syntax.specs.Grammar.{plain, by_itself, minus, is_minus, opening, is_open, closing, is_close, comma, is_comma, prime, is_prime, name, name_of, further_arguments, IsSign, IsExpr, IsAtom}
+use Rattle.formula_syntax.specs.Grammar.{plain, by_itself, minus, is_minus, opening, closing, is_close, comma, is_comma, prime, is_prime, name, name_of, further_arguments, IsSign, IsExpr, IsAtom}
 use Rattle.formula_syntax.specs.Reading.{read_expr, read_sign, read_atom, starts_atom}
 use Rattle.formula_syntax.proofs.Readers.{nothing, wider-starts}
 use Rattle.formula_syntax.proofs.Nonterminals.{Known_by, Lifts, Apart, one-lifts, made-lifts, then-lifts, either-lifts, maybe-lifts, operand-lifts, at_most-lift, pair-known, pair-lifts}
 use Rattle.formula_syntax.proofs.Families.{passing-minus, passing-opening, passing-closing, passing-comma, passing-name, starts_value, more_sum, expr-known, expr-lifts, apart-close, apart-comma}
-use Rattle.formula_syntax.proofs.FormulaFamilies.{more_sign, more_atom, atom-known, atom-lifts, sign-known, sign-lifts, either-of}
+use Rattle.formula_syntax.proofs.FormulaFamilies.{opening-prime_of, minus-name_of, more_sign, more_atom, atom-known, atom-lifts, sign-known, sign-lifts, either-of}
 use Rattle.part_syntax.specs.Grammar.{if_sign, is_if, stop, is_stop, dots, is_dots, semicolon, is_semicolon, open_brace, is_open_brace, close_brace, equal, slash, program_word, is_program, const_word, is_const, show_word, is_show, part, arity, chain_of, arg_of, tuples_of, fact_of, head_of, fact_item, rule_item, braced, no_body, choice_item, part_item, const_item, signature_of, show_item, IsTail, IsArg, IsTuple, IsTuples, IsFacts, BehindFacts, IsFactOrRule, IsChoice, IsChoiceRule, IsConstraint, IsPartItem, IsConstItem, IsSignature, IsShowItem, IsItem}
 use Rattle.part_syntax.specs.Reading.{read_tail, read_arg, read_tuple, read_tuples, read_facts, read_behind, read_fact_or_rule, read_choice, read_choice_rule, read_constraint, read_part_item, read_const_item, read_signature, read_show_item, read_item, starts_signature, starts_item}
 use Rattle.part_syntax.proofs.ReadBy.{Read_by, Opened_by, known-read, one-read, made-read, then-read, then-read_on, then-read_from, either-read, maybe-opened, operand-read, each-opened, at_most-opened, each-lifts, after-read, after-lifts}
@@ -131,12 +131,8 @@ tuples-lifts n =
 
 -- ---- facts, and the rules that begin like facts
 
-opening-sign_of : (s : Sense) → is_some (plain (is_open s)) ≡ true → is_some (plain (is_prime s)) ≡ false
-opening-sign_of (Sign marks.Open) is = refl
-opening-sign_of _ is = absurd (false≢true is)
-
 apart-brackets : Apart (passes opening) more_sign
-apart-brackets word is = let e : passes prime word ≡ false = opening-sign_of (sense word) is in rw e refl
+apart-brackets word is = let e : passes prime word ≡ false = opening-prime_of (sense word) is in rw e refl
 
 sign-read : Read_by IsSign read_sign starts_atom more_sign
 sign-read = known-read IsSign read_sign starts_atom more_sign sign-known
@@ -274,12 +270,8 @@ const_item-lifts n =
     (operand-lifts equal (Then (IsExpr (suc n)) (One stop)) (Then (IsExpr (suc (suc n))) (One stop)) (both (read_expr (suc n)) (one stop)) (both (read_expr (suc (suc n))) (one stop)) passing-equal
     (then-lifts (IsExpr (suc n)) (IsExpr (suc (suc n))) (One stop) (One stop) (read_expr (suc n)) (read_expr (suc (suc n))) (one stop) (one stop) (expr-lifts (suc n)) (one-lifts stop) (expr-known (suc (suc n))).reads.near))))
 
-name-minus_of : (s : Sense) → is_some (by_itself (name_of s)) ≡ true → is_some (plain (is_minus s)) ≡ false
-name-minus_of (Name text) is = refl
-name-minus_of _ is = absurd (false≢true is)
-
 apart-named : Apart (passes name) (or_also (passes minus) nothing)
-apart-named word is = let e : passes minus word ≡ false = name-minus_of (sense word) is in rw e refl
+apart-named word is = let e : passes minus word ≡ false = minus-name_of (sense word) is in rw e refl
 
 minus-opened : Opened_by (Maybe (One minus)) (maybe (passes minus) (one minus)) (passes minus) (or_also (passes minus) nothing)
 minus-opened = maybe-opened (One minus) (one minus) (passes minus) nothing (one-read minus passing-minus)
