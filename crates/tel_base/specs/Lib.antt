@@ -1,5 +1,6 @@
 pub mod Bytes
 pub mod Counts
 pub mod Given
+pub mod Literals
 pub mod Opened
 pub mod Taken

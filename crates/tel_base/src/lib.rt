@@ -3,6 +3,7 @@
 #![tactic(auto)]
 
 mod edge;
+mod literals;
 mod outside;
 mod places;
 mod sinks;
@@ -13,6 +14,7 @@ mod texts;
 mod writing;
 
 pub use edge::{FileSource, OutSink};
+pub use literals::{Clause, Lit};
 pub use outside::{Failed, Memory, Sink, Source};
 pub use places::Place;
 pub use sinks::{MemSink, NullSink};
