@@ -1,10 +1,12 @@
 -- Since, trigger, until and release by one step: what they are at an instant, by what they are at the next one of their way.
-use Rattle.std.proofs.Common.{◌≡◌, ℕ, ◌+◌, ◌-◌, ◌<◌, Bool, true, false, not, ◌&&◌, ◌||◌, [], refl, sym, subst, inl, inr, ⊎_elim, ◌∙◌, arith}
-use Rattle.std.specs.Prelude.{nat_lt}
-use Rattle.std.proofs.lemmas.Bool.{and_parts, and_from, and_right, false_from_ne_true, or_cases, or_left, or_right, cases_order, cases_Bool, ltb-true, lt-ltb, false≢true}
+use Rattle.std.proofs.Common.{◌≡◌, ℕ, ◌+◌, ◌-◌, ◌<◌, Bool, true, false, not, ◌&&◌, ◌||◌, [], refl, sym, ap, subst, inl, inr, ⊎_elim, ◌∙◌, arith}
+use Rattle.std.specs.Prelude.{nat_lt, if◌then◌else◌}
+use Rattle.std.proofs.Math.Bool.{beq}
+use Rattle.std.proofs.lemmas.Bool.{and_parts, and_from, and_right, not-true, not-false, false_from_ne_true, or_cases, or_left, or_right, cases_order, cases_Bool, ltb-true, lt-ltb, false≢true}
 use Rattle.tel_semantics.specs.Traces.{Test}
 use Rattle.tel_semantics.specs.Formula.{Formula, Since, Trigger, Until, Release, initially, finally}
 use Rattle.tel_semantics.specs.Satisfaction.{sat}
+use Rattle.tel_semantics.specs.Walking.{back_formula, on_formula}
 use Rattle.tel_semantics.proofs.TableRows.{follows_table, means_its_name, implied, implied_at}
 
 -- two tests of which each holds where the other does
@@ -49,74 +51,50 @@ release-step f g n H T k within =
     let on = sat (Release f g) n H T (k + 1) in
     same_truth (sat (Release f g) n H T k) (at_g k && (at_f k || (not (nat_lt (k + 1) n) || on))) (λ h. let all = now.0 h in and_from (at_g k) (at_f k || (not (nat_lt (k + 1) n) || on)) (⊎_elim (λ here. here) (λ w. absurd (omega (arith, w.1, w.2))) (all k (omega arith) within)) (⊎_elim (λ yes. or_left (at_f k) (not (nat_lt (k + 1) n) || on) yes) (λ no. or_right (at_f k) (not (nat_lt (k + 1) n) || on) (implied (nat_lt (k + 1) n) on (λ l. after.1 (λ j m u. ⊎_elim (λ here. inl here) (λ w. ⊎_elim (λ same. absurd (false≢true (sym no ∙ subst (λ (i : ℕ). at_f i ≡ true) same w.3))) (λ other. ⊎_elim (λ below. absurd (omega (arith, w.1))) (λ over. inr (w.0, omega arith, w.2, w.3)) other) (cases_order w.0 k)) (all j (omega arith) u))))) (cases_Bool (at_f k)))) (λ h. let p = and_parts (at_g k) (at_f k || (not (nat_lt (k + 1) n) || on)) h in now.1 (λ j m u. ⊎_elim (λ same. inl (subst (λ (i : ℕ). at_g i ≡ true) (sym same) p.0)) (λ other. ⊎_elim (λ below. absurd (omega arith)) (λ over. ⊎_elim (λ yes. inr (k, omega arith, over, yes)) (λ more. let rest = implied_at (nat_lt (k + 1) n) on more (lt-ltb (k + 1) n (omega arith)) in ⊎_elim (λ here. inl here) (λ w. inr (w.0, omega (arith, w.1), w.2, w.3)) (after.0 rest j (omega arith) u)) (or_cases (at_f k) (not (nat_lt (k + 1) n) || on) p.1)) other) (cases_order j k)))
 
--- ---- the loops that go back or on by these steps
+-- ---- the loops that go back or on by these steps: each looks at its right side, and then at its left one
 
-test-true : (a b : ℕ) → a < b → nat_lt a b ≡ true
-test-true a b l = lt-ltb a b l
+-- what a loop answers at an instant where it has these sides, and where it answers `more` from the next one on
+abbrev pub reach : Bool → Bool → Bool → Bool → Bool
+reach some right left more = if beq right some then some else (if beq left some then more else not some)
 
-none-below : (j : ℕ) → j ≡ 0 → nat_lt 0 j ≡ false
-none-below j e = false_from_ne_true (nat_lt 0 j) (λ t. let l = ltb-true 0 j t in absurd (omega arith))
+some-reached : (right left there more : Bool) → (right || (left && (there && more))) ≡ reach true right left (if there then more else false)
+some-reached true left there more = refl
+some-reached false true true more = refl
+some-reached false true false more = refl
+some-reached false false there more = refl
 
-pub since-found : (f g : Formula) (n : ℕ) (H T : Test) (k j : ℕ) → sat (Since f g) n H T k ≡ sat (Since f g) n H T j → sat g n H T j ≡ true → true ≡ sat (Since f g) n H T k
-since-found f g n H T k j same right =
-    sym (same ∙ since-step f g n H T j ∙ or_left (sat g n H T j) (sat f n H T j && (nat_lt 0 j && sat (Since f g) n H T (j - 1))) right)
+each-reached : (right left there more : Bool) → (right && (left || (not there || more))) ≡ reach false right left (if there then more else true)
+each-reached false left there more = refl
+each-reached true false true more = refl
+each-reached true false false more = refl
+each-reached true true there more = refl
 
-pub since-lost : (f g : Formula) (n : ℕ) (H T : Test) (k j : ℕ) → sat (Since f g) n H T k ≡ sat (Since f g) n H T j → sat g n H T j ≡ false → sat f n H T j ≡ false → false ≡ sat (Since f g) n H T k
-since-lost f g n H T k j same right left =
-    let step = since-step f g n H T j in
-    sym (same ∙ step ∙ (λ i. right i || (left i && (nat_lt 0 j && sat (Since f g) n H T (j - 1)))))
+pub back-step : (some : Bool) (f g : Formula) (n : ℕ) (H T : Test) (k : ℕ) → sat (back_formula some f g) n H T k ≡ reach some (sat g n H T k) (sat f n H T k) (if nat_lt 0 k then sat (back_formula some f g) n H T (k - 1) else not some)
+back-step true f g n H T k = since-step f g n H T k ∙ some-reached (sat g n H T k) (sat f n H T k) (nat_lt 0 k) (sat (Since f g) n H T (k - 1))
+back-step false f g n H T k = trigger-step f g n H T k ∙ each-reached (sat g n H T k) (sat f n H T k) (nat_lt 0 k) (sat (Trigger f g) n H T (k - 1))
 
-pub since-first : (f g : Formula) (n : ℕ) (H T : Test) (k j : ℕ) → sat (Since f g) n H T k ≡ sat (Since f g) n H T j → sat g n H T j ≡ false → j ≡ 0 → false ≡ sat (Since f g) n H T k
-since-first f g n H T k j same right first =
-    let step = since-step f g n H T j in
-    sym (same ∙ step ∙ (λ i. right i || (sat f n H T j && (none-below j first i && sat (Since f g) n H T (j - 1)))) ∙ and_right (sat f n H T j) false refl)
+pub on-step : (some : Bool) (f g : Formula) (n : ℕ) (H T : Test) (k : ℕ) → k < n → sat (on_formula some f g) n H T k ≡ reach some (sat g n H T k) (sat f n H T k) (if nat_lt (k + 1) n then sat (on_formula some f g) n H T (k + 1) else not some)
+on-step true f g n H T k within = until-step f g n H T k within ∙ some-reached (sat g n H T k) (sat f n H T k) (nat_lt (k + 1) n) (sat (Until f g) n H T (k + 1))
+on-step false f g n H T k within = release-step f g n H T k within ∙ each-reached (sat g n H T k) (sat f n H T k) (nat_lt (k + 1) n) (sat (Release f g) n H T (k + 1))
 
-pub since-back : (f g : Formula) (n : ℕ) (H T : Test) (k j : ℕ) → sat (Since f g) n H T k ≡ sat (Since f g) n H T j → sat g n H T j ≡ false → sat f n H T j ≡ true → 0 < j → sat (Since f g) n H T k ≡ sat (Since f g) n H T (j - 1)
-since-back f g n H T k j same right left some =
-    same ∙ since-step f g n H T j ∙ (λ i. right i || (left i && (test-true 0 j some i && sat (Since f g) n H T (j - 1))))
+-- the right side decides
+pub reach-right : (some right left more : Bool) → beq right some ≡ true → reach some right left more ≡ some
+reach-right some right left more decides = ap (λ (t : Bool). if t then some else (if beq left some then more else not some)) decides
 
-pub trigger-lost : (f g : Formula) (n : ℕ) (H T : Test) (k j : ℕ) → sat (Trigger f g) n H T k ≡ sat (Trigger f g) n H T j → sat g n H T j ≡ false → false ≡ sat (Trigger f g) n H T k
-trigger-lost f g n H T k j same right =
-    let step = trigger-step f g n H T j in
-    sym (same ∙ step ∙ (λ i. right i && (sat f n H T j || (not (nat_lt 0 j) || sat (Trigger f g) n H T (j - 1)))))
+-- the left side decides
+pub reach-left : (some right left more : Bool) → beq right some ≡ false → not (beq left some) ≡ true → reach some right left more ≡ not some
+reach-left some right left more open_right decides = (λ i. if open_right i then some else (if not-true (beq left some) decides i then more else not some))
 
-pub trigger-found : (f g : Formula) (n : ℕ) (H T : Test) (k j : ℕ) → sat (Trigger f g) n H T k ≡ sat (Trigger f g) n H T j → sat g n H T j ≡ true → sat f n H T j ≡ true → true ≡ sat (Trigger f g) n H T k
-trigger-found f g n H T k j same right left =
-    let step = trigger-step f g n H T j in
-    sym (same ∙ step ∙ (λ i. right i && (left i || (not (nat_lt 0 j) || sat (Trigger f g) n H T (j - 1)))))
+-- neither does
+pub reach-on : (some right left more : Bool) → beq right some ≡ false → not (beq left some) ≡ false → reach some right left more ≡ more
+reach-on some right left more open_right open_left = (λ i. if open_right i then some else (if not-false (beq left some) open_left i then more else not some))
 
-pub trigger-first : (f g : Formula) (n : ℕ) (H T : Test) (k j : ℕ) → sat (Trigger f g) n H T k ≡ sat (Trigger f g) n H T j → sat g n H T j ≡ true → j ≡ 0 → true ≡ sat (Trigger f g) n H T k
-trigger-first f g n H T k j same right first =
-    let step = trigger-step f g n H T j in
-    sym (same ∙ step ∙ (λ i. right i && (sat f n H T j || (not (none-below j first i) || sat (Trigger f g) n H T (j - 1)))) ∙ or_right (sat f n H T j) true refl)
+-- the last instant on the way back
+pub no_more : (j : ℕ) (more less : Bool) → j ≡ 0 → (if nat_lt 0 j then more else less) ≡ less
+no_more j more less first = ap (λ (t : Bool). if t then more else less) (false_from_ne_true (nat_lt 0 j) (λ t. let l = ltb-true 0 j t in absurd (omega arith)))
 
-pub trigger-back : (f g : Formula) (n : ℕ) (H T : Test) (k j : ℕ) → sat (Trigger f g) n H T k ≡ sat (Trigger f g) n H T j → sat g n H T j ≡ true → sat f n H T j ≡ false → 0 < j → sat (Trigger f g) n H T k ≡ sat (Trigger f g) n H T (j - 1)
-trigger-back f g n H T k j same right left some =
-    same ∙ trigger-step f g n H T j ∙ (λ i. right i && (left i || (not (test-true 0 j some i) || sat (Trigger f g) n H T (j - 1))))
-
-pub until-found : (f g : Formula) (n : ℕ) (H T : Test) (k j : ℕ) → j < n → sat (Until f g) n H T k ≡ (nat_lt j n && sat (Until f g) n H T j) → sat g n H T j ≡ true → true ≡ sat (Until f g) n H T k
-until-found f g n H T k j within same right =
-    sym (same ∙ (λ i. test-true j n within i && until-step f g n H T j within i) ∙ or_left (sat g n H T j) (sat f n H T j && (nat_lt (j + 1) n && sat (Until f g) n H T (j + 1))) right)
-
-pub until-lost : (f g : Formula) (n : ℕ) (H T : Test) (k j : ℕ) → j < n → sat (Until f g) n H T k ≡ (nat_lt j n && sat (Until f g) n H T j) → sat g n H T j ≡ false → sat f n H T j ≡ false → false ≡ sat (Until f g) n H T k
-until-lost f g n H T k j within same right left =
-    sym (same ∙ (λ i. test-true j n within i && until-step f g n H T j within i) ∙ (λ i. right i || (left i && (nat_lt (j + 1) n && sat (Until f g) n H T (j + 1)))))
-
-pub until-on : (f g : Formula) (n : ℕ) (H T : Test) (k j : ℕ) → j < n → sat (Until f g) n H T k ≡ (nat_lt j n && sat (Until f g) n H T j) → sat g n H T j ≡ false → sat f n H T j ≡ true → sat (Until f g) n H T k ≡ (nat_lt (j + 1) n && sat (Until f g) n H T (j + 1))
-until-on f g n H T k j within same right left =
-    same ∙ (λ i. test-true j n within i && until-step f g n H T j within i) ∙ (λ i. right i || (left i && (nat_lt (j + 1) n && sat (Until f g) n H T (j + 1))))
-
-pub release-lost : (f g : Formula) (n : ℕ) (H T : Test) (k j : ℕ) → j < n → sat (Release f g) n H T k ≡ (not (nat_lt j n) || sat (Release f g) n H T j) → sat g n H T j ≡ false → false ≡ sat (Release f g) n H T k
-release-lost f g n H T k j within same right =
-    sym (same ∙ (λ i. not (test-true j n within i) || release-step f g n H T j within i) ∙ (λ i. right i && (sat f n H T j || (not (nat_lt (j + 1) n) || sat (Release f g) n H T (j + 1)))))
-
-pub release-found : (f g : Formula) (n : ℕ) (H T : Test) (k j : ℕ) → j < n → sat (Release f g) n H T k ≡ (not (nat_lt j n) || sat (Release f g) n H T j) → sat g n H T j ≡ true → sat f n H T j ≡ true → true ≡ sat (Release f g) n H T k
-release-found f g n H T k j within same right left =
-    sym (same ∙ (λ i. not (test-true j n within i) || release-step f g n H T j within i) ∙ (λ i. right i && (left i || (not (nat_lt (j + 1) n) || sat (Release f g) n H T (j + 1)))))
-
-pub release-on : (f g : Formula) (n : ℕ) (H T : Test) (k j : ℕ) → j < n → sat (Release f g) n H T k ≡ (not (nat_lt j n) || sat (Release f g) n H T j) → sat g n H T j ≡ true → sat f n H T j ≡ false → sat (Release f g) n H T k ≡ (not (nat_lt (j + 1) n) || sat (Release f g) n H T (j + 1))
-release-on f g n H T k j within same right left =
-    same ∙ (λ i. not (test-true j n within i) || release-step f g n H T j within i) ∙ (λ i. right i && (left i || (not (nat_lt (j + 1) n) || sat (Release f g) n H T (j + 1))))
+pub goes_on : (i j : ℕ) (more less : Bool) → i < j → (if nat_lt i j then more else less) ≡ more
+goes_on i j more less below = ap (λ (t : Bool). if t then more else less) (lt-ltb i j below)
 
 -- ---- the ends of a trace
 

@@ -19,6 +19,7 @@ use Rattle.tel_rule.proofs.NodeSteps.{node-at, value-at}
 use Rattle.tel_rule.specs.declared.ground.BodyItem.TheVariants as items
 use Rattle.tel_semantics.specs.Formula.{Formula, False, Atom, Previous, negation}
 use Rattle.tel_semantics.specs.Theory.{literal_formula}
+use Rattle.tel_semantics.specs.Walking.{IsNodeAt}
 use Rattle.tel_semantics.specs.Laws.{IsNot, IsBefore}
 use Rattle.tel_semantics.specs.NodeFormula.{unary_formula, binary_formula, op_formula, node_formulas, node_formula, kid_formula}
 
@@ -30,12 +31,6 @@ kid-means nodes (kids.Node node) = ap (λ (number : ℕ). slice_index_or (node_f
 kids-mean : (nodes : List Node) (list : List Kid) → map (kid_value Atom False 0 (node_formulas nodes)) list ≡ map (kid_formula nodes) list
 kids-mean nodes [] = refl
 kids-mean nodes (kid ∷ more) = ap₂ (λ (f : Formula) (rest : List Formula). f ∷ rest) (kid-means nodes kid) (kids-mean nodes more)
-
--- what is known of a node of a program: what it means, and that its children are those that it may have
-pub record IsNodeAt (program : Ground) (x : ℕ) (op : NodeOp) (list : List Kid) : Type 0 where
-  pub counted : takes_kids op (length list) ≡ true
-  pub right : list_all (is_kid (length program.atoms) (length program.nodes) x) list ≡ true
-  pub means : node_formula program.nodes x ≡ op_formula op (map (kid_formula program.nodes) list)
 
 pub node_at : (program : Ground) (x : ℕ) (node : Node) → IsGround program → x < length program.nodes → node ≡ get_or program.nodes x node → IsNodeAt program x node.op node.kids
 unfolding node_formula

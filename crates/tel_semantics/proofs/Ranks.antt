@@ -6,20 +6,7 @@ use Rattle.std.proofs.lemmas.Bool.{and_parts, and_from, ltb-true}
 use Rattle.tel_rule.specs.declared.nodes.Kid.{Kid}
 use Rattle.tel_rule.specs.declared.nodes.Kid.TheVariants as kids
 use Rattle.tel_rule.specs.Nodes.{is_kid, kid_in_range}
-use Rattle.tel_semantics.specs.declared.walking.Operand.{Operand}
-use Rattle.tel_semantics.specs.declared.walking.Operand.TheVariants.{Constant, Child}
-
-abbrev pub kid_rank : ℕ → Kid → ℕ
-kid_rank total (kids.Atom atom) = 0
-kid_rank total (kids.Node node) = total - node
-
-abbrev pub operand_rank : ℕ → Operand → ℕ
-operand_rank total (Constant value) = 0
-operand_rank total (Child kid) = kid_rank total kid
-
-abbrev pub most_rank : ℕ → List Kid → ℕ
-most_rank total [] = 0
-most_rank total (kid ∷ more) = max (kid_rank total kid) (most_rank total more)
+use Rattle.tel_semantics.specs.Walking.{kid_rank, most_rank}
 
 -- a child of a node in range has a smaller rank than the node
 pub kid_rank-below : (atoms total x : ℕ) (kid : Kid) → x < total → is_kid atoms total x kid ≡ true → kid_rank total kid < total - x

@@ -5,9 +5,9 @@ ghost use Rattle.std.specs.Prelude.{◌≡◌, ℕ, ◌<◌, not, ◌||◌, ◌&
 ghost use Rattle.std.specs.List.{list_all};
 ghost use Rattle.tel_rule.specs.Nodes.{kid_in_range};
 ghost use Rattle.tel_semantics.specs.Traces.{test_of};
-ghost use Rattle.tel_semantics.specs.Formula.{Arrow, Since, Trigger, Until, Release};
+ghost use Rattle.tel_semantics.specs.Formula.{Arrow, both_arrows};
 ghost use Rattle.tel_semantics.specs.NodeFormula.{const_formula, unary_formula, binary_formula, many_formula, node_formula, kid_formula};
-ghost use Rattle.tel_semantics.specs.Walking.{seen, holds_in, operand_formula, operand_in_range};
+ghost use Rattle.tel_semantics.specs.Walking.{seen, holds_in, operand_formula, operand_in_range, IsNodeAt, IsOperationOf, back_formula, on_formula};
 
 use crate::candidates::State;
 use tel_rule::{BinaryOp, ConstOp, Kid, ManyOp, NodeOp, Template, UnaryOp};
@@ -44,6 +44,42 @@ pub struct HtTrace<'a> {
 pub enum Operand {
     Constant(bool),
     Child(Kid),
+}
+
+/// The operator of a node with the children that it is applied to.
+#[derive(Clone, Copy)]
+enum Operation<'a> {
+    Const(ConstOp),
+    Unary(UnaryOp, Kid),
+    Binary(BinaryOp, Kid, Kid),
+    And(&'a [Kid]),
+    Or(&'a [Kid]),
+}
+
+/// The operator of a node, and its children.
+fn node_of(template: &Template, node: u32) -> (NodeOp, &[Kid])
+    requires { node < length template.now.nodes }
+    ensures { IsNodeAt template.now node result.0 result.1.now }
+{
+    let found = &template.nodes.as_slice()[node as usize];
+    (found.op, found.kids.as_slice())
+}
+
+/// The operation of a node.
+fn operation_of(template: &Template, node: u32) -> Operation<'_>
+    requires { node < length template.now.nodes }
+    ensures { IsOperationOf template.now node result }
+{
+    let (op, kids) = node_of(template, node);
+    match op {
+        NodeOp::Const(op) => Operation::Const(op),
+        NodeOp::Unary(op) => Operation::Unary(op, kids[0]),
+        NodeOp::Binary(op) => Operation::Binary(op, kids[0], kids[1]),
+        NodeOp::Many(op) => match op {
+            ManyOp::And => Operation::And(kids),
+            ManyOp::Or => Operation::Or(kids),
+        },
+    }
 }
 
 impl<'a> HtTrace<'a> {
@@ -113,16 +149,14 @@ impl<'a> HtTrace<'a> {
         requires in_range { node < length template.now.nodes }
         ensures { result ≡ holds_in self.now (node_formula template.now.nodes node) k }
     {
-        let found = &template.nodes.as_slice()[node as usize];
-        let kids = found.kids.as_slice();
-        match found.op {
-            NodeOp::Const(op) => self.constant_holds(op, k),
-            NodeOp::Unary(op) => self.unary_holds(template, op, kids[0], k),
-            NodeOp::Binary(op) => self.binary_holds(template, op, kids[0], kids[1], k),
-            NodeOp::Many(op) => match op {
-                ManyOp::And => self.all_hold(template, kids, k),
-                ManyOp::Or => self.some_holds(template, kids, k),
-            },
+        match operation_of(template, node) {
+            Operation::Const(op) => self.constant_holds(op, k),
+            Operation::Unary(op, kid) => self.unary_holds(template, op, kid, k),
+            Operation::Binary(op, first, second) => self.binary_holds(
+                template, op, first, second, k,
+            ),
+            Operation::And(kids) => self.all_hold(template, kids, k),
+            Operation::Or(kids) => self.some_holds(template, kids, k),
         }
     }
 
@@ -140,13 +174,13 @@ impl<'a> HtTrace<'a> {
             UnaryOp::Not => self.arrow_holds(template, child, falsity, k),
             UnaryOp::Previous => k > 0 && self.holds(template, child, k - 1),
             UnaryOp::WeakPrevious => k == 0 || self.holds(template, child, k - 1),
-            UnaryOp::AlwaysBefore => self.trigger_holds(template, falsity, child, k),
-            UnaryOp::OnceBefore => self.since_holds(template, truth, child, k),
+            UnaryOp::AlwaysBefore => self.back_holds(template, false, falsity, child, k),
+            UnaryOp::OnceBefore => self.back_holds(template, true, truth, child, k),
             UnaryOp::Initially => self.holds(template, child, 0),
             UnaryOp::Next => k + 1 < length && self.holds(template, child, k + 1),
             UnaryOp::WeakNext => k + 1 == length || self.holds(template, child, k + 1),
-            UnaryOp::AlwaysAfter => self.release_holds(template, falsity, child, k),
-            UnaryOp::OnceAfter => self.until_holds(template, truth, child, k),
+            UnaryOp::AlwaysAfter => self.on_holds(template, false, falsity, child, k),
+            UnaryOp::OnceAfter => self.on_holds(template, true, truth, child, k),
             UnaryOp::Finally => self.holds(template, child, length - 1),
         }
     }
@@ -169,14 +203,13 @@ impl<'a> HtTrace<'a> {
         let left = Operand::Child(first);
         let right = Operand::Child(second);
         match op {
-            BinaryOp::Since => self.since_holds(template, left, right, k),
-            BinaryOp::Trigger => self.trigger_holds(template, left, right, k),
-            BinaryOp::Until => self.until_holds(template, left, right, k),
-            BinaryOp::Release => self.release_holds(template, left, right, k),
+            BinaryOp::Since => self.back_holds(template, true, left, right, k),
+            BinaryOp::Trigger => self.back_holds(template, false, left, right, k),
+            BinaryOp::Until => self.on_holds(template, true, left, right, k),
+            BinaryOp::Release => self.on_holds(template, false, left, right, k),
             BinaryOp::Implies => self.arrow_holds(template, left, right, k),
             BinaryOp::ImpliedBy => self.arrow_holds(template, right, left, k),
-            BinaryOp::Same => self.arrow_holds(template, left, right, k)
-                && self.arrow_holds(template, right, left, k),
+            BinaryOp::Same => self.same_holds(template, left, right, k),
         }
     }
 
@@ -228,91 +261,78 @@ impl<'a> HtTrace<'a> {
         }
     }
 
-    /// From the instant back, up to one at which the right side holds.
+    /// Whether in this world, and in the world `There`, both sides hold or both fail. Each side is judged once in a world.
     #[cycle(walk)]
-    fn since_holds(&self, template: &Template, left: Operand, right: Operand, k: usize) -> bool
+    fn same_holds(&self, template: &Template, left: Operand, right: Operand, k: usize) -> bool
         requires within { k < self.now.length }
         requires left { IsTrue (operand_in_range template.now left) }
         requires right { IsTrue (operand_in_range template.now right) }
-        ensures { result ≡ holds_in self.now (Since (operand_formula template.now.nodes left)
+        ensures { result ≡ holds_in self.now (both_arrows (operand_formula template.now.nodes left)
+            (operand_formula template.now.nodes right)) k }
+    {
+        let total = self.total();
+        let there = total.holds(template, left, k) == total.holds(template, right, k);
+        match self.world {
+            World::Here => there && self.holds(template, left, k) == self.holds(template, right, k),
+            World::There => there,
+        }
+    }
+
+    /// Since, which wants `some` instant of its way, or trigger: from the instant back, up to one that decides.
+    #[cycle(walk)]
+    fn back_holds(
+        &self,
+        template: &Template,
+        some: bool,
+        left: Operand,
+        right: Operand,
+        k: usize,
+    ) -> bool
+        requires within { k < self.now.length }
+        requires left { IsTrue (operand_in_range template.now left) }
+        requires right { IsTrue (operand_in_range template.now right) }
+        ensures { result ≡ holds_in self.now (back_formula some (operand_formula template.now.nodes left)
             (operand_formula template.now.nodes right)) k }
     {
         let mut at = k;
         'back: loop {
-            if self.holds(template, right, at) {
-                return true;
+            if self.holds(template, right, at) == some {
+                return some;
             }
-            if !self.holds(template, left, at) {
-                return false;
+            if self.holds(template, left, at) != some {
+                return !some;
             }
             if at == 0 {
-                return false;
+                return !some;
             }
             at -= 1;
         }
     }
 
-    /// From the instant back, up to one at which the left side holds too.
+    /// Until, which wants `some` instant of its way, or release: from the instant on, up to one that decides.
     #[cycle(walk)]
-    fn trigger_holds(&self, template: &Template, left: Operand, right: Operand, k: usize) -> bool
+    fn on_holds(
+        &self,
+        template: &Template,
+        some: bool,
+        left: Operand,
+        right: Operand,
+        k: usize,
+    ) -> bool
         requires within { k < self.now.length }
         requires left { IsTrue (operand_in_range template.now left) }
         requires right { IsTrue (operand_in_range template.now right) }
-        ensures { result ≡ holds_in self.now (Trigger (operand_formula template.now.nodes left)
-            (operand_formula template.now.nodes right)) k }
-    {
-        let mut at = k;
-        'back: loop {
-            if !self.holds(template, right, at) {
-                return false;
-            }
-            if self.holds(template, left, at) {
-                return true;
-            }
-            if at == 0 {
-                return true;
-            }
-            at -= 1;
-        }
-    }
-
-    /// From the instant on, up to one at which the right side holds.
-    #[cycle(walk)]
-    fn until_holds(&self, template: &Template, left: Operand, right: Operand, k: usize) -> bool
-        requires within { k < self.now.length }
-        requires left { IsTrue (operand_in_range template.now left) }
-        requires right { IsTrue (operand_in_range template.now right) }
-        ensures { result ≡ holds_in self.now (Until (operand_formula template.now.nodes left)
+        ensures { result ≡ holds_in self.now (on_formula some (operand_formula template.now.nodes left)
             (operand_formula template.now.nodes right)) k }
     {
         for j in k..self.length {
-            if self.holds(template, right, j) {
-                return true;
+            if self.holds(template, right, j) == some {
+                return some;
             }
-            if !self.holds(template, left, j) {
-                return false;
-            }
-        }
-        false
-    }
-
-    /// From the instant on, up to one at which the left side holds too.
-    #[cycle(walk)]
-    fn release_holds(&self, template: &Template, left: Operand, right: Operand, k: usize) -> bool
-        requires within { k < self.now.length }
-        requires left { IsTrue (operand_in_range template.now left) }
-        requires right { IsTrue (operand_in_range template.now right) }
-        ensures { result ≡ holds_in self.now (Release (operand_formula template.now.nodes left)
-            (operand_formula template.now.nodes right)) k }
-    {
-        for j in k..self.length {
-            if !self.holds(template, right, j) {
-                return false;
-            }
-            if self.holds(template, left, j) {
-                return true;
+            if self.holds(template, left, j) != some {
+                return !some;
             }
         }
-        true
+        !some
     }
 }

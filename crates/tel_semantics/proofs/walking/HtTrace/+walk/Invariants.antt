@@ -1,10 +1,8 @@
-use Rattle.std.proofs.Common.{◌≡◌, ◌+◌, ◌-◌, ◌*◌, ◌≤◌, ◌&&◌, ◌||◌, not, map, length, max, drop, nat_lt, List}
+use Rattle.std.proofs.Common.{◌≡◌, ◌+◌, ◌-◌, ◌*◌, ◌≤◌, not, map, length, max, drop, nat_lt, if◌then◌else◌, List}
 use Rattle.tel_rule.specs.declared.nodes.Kid.{Kid}
 use Rattle.tel_rule.specs.declared.formulas.ManyOp.TheVariants as many
-use Rattle.tel_semantics.specs.Formula.{Since, Trigger, Until, Release}
 use Rattle.tel_semantics.specs.NodeFormula.{many_formula, kid_formula}
-use Rattle.tel_semantics.specs.Walking.{holds_in, operand_formula}
-use Rattle.tel_semantics.proofs.Ranks.{kid_rank, operand_rank, most_rank}
+use Rattle.tel_semantics.specs.Walking.{holds_in, operand_formula, kid_rank, operand_rank, most_rank, back_formula, on_formula}
 use Rattle.tel_semantics.proofs.walking.HtTrace.+walk.Given as goal
 
 abbrev pub decreases-holds : goal.decreases-holds
@@ -28,17 +26,14 @@ decreases-some_holds l = 4 * most_rank (length l.template.now.nodes) l.kids.now 
 abbrev pub decreases-arrow_holds : goal.decreases-arrow_holds
 decreases-arrow_holds l = 4 * max (operand_rank (length l.template.now.nodes) l.left) (operand_rank (length l.template.now.nodes) l.right) + 1
 
-abbrev pub decreases-since_holds : goal.decreases-since_holds
-decreases-since_holds l = 4 * max (operand_rank (length l.template.now.nodes) l.left) (operand_rank (length l.template.now.nodes) l.right) + 1
+abbrev pub decreases-same_holds : goal.decreases-same_holds
+decreases-same_holds l = 4 * max (operand_rank (length l.template.now.nodes) l.left) (operand_rank (length l.template.now.nodes) l.right) + 1
 
-abbrev pub decreases-trigger_holds : goal.decreases-trigger_holds
-decreases-trigger_holds l = 4 * max (operand_rank (length l.template.now.nodes) l.left) (operand_rank (length l.template.now.nodes) l.right) + 1
+abbrev pub decreases-back_holds : goal.decreases-back_holds
+decreases-back_holds l = 4 * max (operand_rank (length l.template.now.nodes) l.left) (operand_rank (length l.template.now.nodes) l.right) + 1
 
-abbrev pub decreases-until_holds : goal.decreases-until_holds
-decreases-until_holds l = 4 * max (operand_rank (length l.template.now.nodes) l.left) (operand_rank (length l.template.now.nodes) l.right) + 1
-
-abbrev pub decreases-release_holds : goal.decreases-release_holds
-decreases-release_holds l = 4 * max (operand_rank (length l.template.now.nodes) l.left) (operand_rank (length l.template.now.nodes) l.right) + 1
+abbrev pub decreases-on_holds : goal.decreases-on_holds
+decreases-on_holds l = 4 * max (operand_rank (length l.template.now.nodes) l.left) (operand_rank (length l.template.now.nodes) l.right) + 1
 
 abbrev pub invariant-all_hold-loop-kid : goal.invariant-all_hold-loop-kid
 invariant-all_hold-loop-kid l =
@@ -50,28 +45,15 @@ invariant-some_holds-loop-kid l =
     let formula = λ (list : List Kid). many_formula many.Or (map (kid_formula l.template.nodes) list) in
     holds_in l.self (formula l.kids) l.k ≡ holds_in l.self (formula (drop l.kid-index l.kids)) l.k
 
-abbrev pub invariant-since_holds-back : goal.invariant-since_holds-back
-invariant-since_holds-back l =
-    let formula = Since (operand_formula l.template.nodes l.left) (operand_formula l.template.nodes l.right) in
+abbrev pub invariant-back_holds-back : goal.invariant-back_holds-back
+invariant-back_holds-back l =
+    let formula = back_formula l.some (operand_formula l.template.nodes l.left) (operand_formula l.template.nodes l.right) in
     (l.at ≤ l.k) × (holds_in l.self formula l.k ≡ holds_in l.self formula l.at)
 
-abbrev pub decreases-since_holds-back : goal.decreases-since_holds-back
-decreases-since_holds-back l = l.at
+abbrev pub decreases-back_holds-back : goal.decreases-back_holds-back
+decreases-back_holds-back l = l.at
 
-abbrev pub invariant-trigger_holds-back : goal.invariant-trigger_holds-back
-invariant-trigger_holds-back l =
-    let formula = Trigger (operand_formula l.template.nodes l.left) (operand_formula l.template.nodes l.right) in
-    (l.at ≤ l.k) × (holds_in l.self formula l.k ≡ holds_in l.self formula l.at)
-
-abbrev pub decreases-trigger_holds-back : goal.decreases-trigger_holds-back
-decreases-trigger_holds-back l = l.at
-
-abbrev pub invariant-until_holds-loop-j : goal.invariant-until_holds-loop-j
-invariant-until_holds-loop-j l =
-    let formula = Until (operand_formula l.template.nodes l.left) (operand_formula l.template.nodes l.right) in
-    holds_in l.self formula l.k ≡ (nat_lt l.j l.self.length && holds_in l.self formula l.j)
-
-abbrev pub invariant-release_holds-loop-j : goal.invariant-release_holds-loop-j
-invariant-release_holds-loop-j l =
-    let formula = Release (operand_formula l.template.nodes l.left) (operand_formula l.template.nodes l.right) in
-    holds_in l.self formula l.k ≡ (not (nat_lt l.j l.self.length) || holds_in l.self formula l.j)
+abbrev pub invariant-on_holds-loop-j : goal.invariant-on_holds-loop-j
+invariant-on_holds-loop-j l =
+    let formula = on_formula l.some (operand_formula l.template.nodes l.left) (operand_formula l.template.nodes l.right) in
+    holds_in l.self formula l.k ≡ (if nat_lt l.j l.self.length then holds_in l.self formula l.j else not l.some)
