@@ -9,6 +9,12 @@ pub record Opened : Type 0 where
   pub file : Option (List ℕ × ℕ)
   pub faults : ℕ
 
+-- the same, and what standard input and the file that is read have left to give, where they tell it
+pub record Incoming : Type 0 where
+  pub opened : Opened
+  pub input_left : Option (List ℕ)
+  pub file_left : Option (List ℕ)
+
 -- the name of standard input
 abbrev pub is_input : List ℕ → Bool
 is_input name = bytes_eq name (codes "-")

@@ -1,5 +1,5 @@
 -- Bytes that are taken into memory, and which calls for them fail.
-use Rattle.std.specs.Prelude.{ℕ, ◌-◌, Bool, ◌&&◌, ◌||◌, List, ◌++◌, nat_lt, nat_le, length, take, min, if◌then◌else◌}
+use Rattle.std.specs.Prelude.{ℕ, ◌-◌, Bool, ◌&&◌, ◌||◌, List, Option, ◌++◌, nat_lt, nat_le, length, take, min, if◌then◌else◌}
 use Rattle.tel_base.specs.Counts.{counted}
 use Rattle.tel_base.specs.Given.{is_listed}
 
@@ -11,6 +11,11 @@ pub record Taken : Type 0 where
   pub most : ℕ
   pub fails : List ℕ
   pub calls : ℕ
+  pub faults : ℕ
+
+-- the bytes that a stream holds, where it tells them, and how many calls with it failed
+pub record Outgoing : Type 0 where
+  pub held : Option (List ℕ)
   pub faults : ℕ
 
 -- the next call with this piece fails: its number is listed, or there is a byte and no room for it
