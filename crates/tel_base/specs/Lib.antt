@@ -2,5 +2,6 @@ pub mod Bytes
 pub mod Counts
 pub mod Given
 pub mod Literals
+pub mod Keys
 pub mod Opened
 pub mod Taken

@@ -4,6 +4,7 @@
 
 mod edge;
 mod literals;
+mod keys;
 mod outside;
 mod places;
 mod sinks;
@@ -15,6 +16,7 @@ mod writing;
 
 pub use edge::{FileSource, OutSink};
 pub use literals::{Clause, Lit};
+pub use keys::HashKey;
 pub use outside::{Failed, Memory, Sink, Source};
 pub use places::Place;
 pub use sinks::{MemSink, NullSink};

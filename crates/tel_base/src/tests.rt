@@ -1,7 +1,11 @@
 use super::*;
-use std::alloc::{AllocError, Global};
-use std::fs;
+use std::alloc::{AllocError, Allocator, Global};
+use std::fs::{File, Metadata, OpenOptions};
+use std::hash::BuildHasher;
+use std::io::BufRead;
+use std::rt::Files;
 use std::test::Fail;
+use std::{fs, io};
 
 // The first bytes of a text that a call gives into this room.
 fn front<S: Source>(
@@ -85,6 +89,89 @@ fn pieces_written(rt: HostRuntime) -> Result<(), Fail> {
     Ok(())
 }
 
+// The files of the system, and a standard input with these bytes.
+#[derive(Drop)]
+struct Fed {
+    system: HostRuntime,
+    input: &'static [u8],
+}
+
+impl Files for Fed {
+    type File = File;
+
+    type Dir = io::Empty;
+
+    fn open_file(&self, how: &OpenOptions, path: &str) -> io::Result<File> {
+        self.system.open_file(how, path)
+    }
+
+    fn open_dir(&self, _path: &str) -> io::Result<io::Empty> {
+        Ok(io::empty())
+    }
+
+    fn metadata(&self, path: &str) -> io::Result<Metadata> {
+        self.system.metadata(path)
+    }
+
+    fn symlink_metadata(&self, path: &str) -> io::Result<Metadata> {
+        self.system.symlink_metadata(path)
+    }
+
+    fn copy(&self, from: &str, to: &str) -> io::Result<u64> {
+        self.system.copy(from, to)
+    }
+
+    fn rename(&self, from: &str, to: &str) -> io::Result<()> {
+        self.system.rename(from, to)
+    }
+
+    fn remove_file(&self, path: &str) -> io::Result<()> {
+        self.system.remove_file(path)
+    }
+
+    fn create_dir(&self, path: &str) -> io::Result<()> {
+        self.system.create_dir(path)
+    }
+
+    fn remove_dir(&self, path: &str) -> io::Result<()> {
+        self.system.remove_dir(path)
+    }
+
+    fn remove_dir_all<B: Allocator>(&self, alloc: B, path: &str) -> io::Result<()> {
+        self.system.remove_dir_all(alloc, path)
+    }
+}
+
+impl Input for Fed {
+    type Reader = &'static [u8];
+
+    fn read_line<A: Allocator + Clone>(&self, _line: &mut String<A>) -> io::Result<usize> {
+        Err(io::Error::from(io::ErrorKind::Unsupported))
+    }
+
+    fn lines<A: Allocator>(&self, alloc: A) -> io::Lines<&'static [u8], A> {
+        self.input.lines(alloc)
+    }
+
+    fn reader(&self) -> &'static [u8] {
+        self.input
+    }
+}
+
+// A stream that is full.
+#[derive(Drop)]
+struct Full;
+
+impl io::Write for Full {
+    fn write(&mut self, _piece: &[u8]) -> io::Result<usize> {
+        Err(io::Error::from(io::ErrorKind::StorageFull))
+    }
+
+    fn flush(&mut self) -> io::Result<()> {
+        Ok(())
+    }
+}
+
 #[test]
 fn files_and_streams(rt: HostRuntime) -> Result<(), Fail> {
     let alloc = rt.alloc();
@@ -95,17 +182,25 @@ fn files_and_streams(rt: HostRuntime) -> Result<(), Fail> {
     write_whole(&mut sink, b"two")?;
     drop(sink);
     fs::write(&rt, "tel_base_test/empty", b"".as_slice())?;
-    let mut source = FileSource::new(alloc, &rt);
+    let system = Fed {
+        system: rt,
+        input: b"three",
+    };
+    let mut source = FileSource::new(alloc, system);
     let calls = [
         ("tel_base_test/empty", 0, Some("")),
         ("tel_base_test/words", 0, Some("one ")),
         ("tel_base_test/words", 4, Some("two")),
+        ("-", 0, Some("thre")),
         ("tel_base_test/words", 7, Some("")),
         ("tel_base_test/words", 4, None),
         ("tel_base_test/words", 0, Some("one ")),
         ("tel_base_test/empty", 4, None),
         ("tel_base_test/missing", 0, None),
-        ("-", 4, None),
+        ("tel_base_test", 0, None),
+        ("-", 0, None),
+        ("-", 4, Some("e")),
+        ("-", 5, Some("")),
     ];
     for (name, from, wanted) in calls {
         let mut into = [0; 4];
@@ -125,6 +220,25 @@ fn files_and_streams(rt: HostRuntime) -> Result<(), Fail> {
     assert_eq!(rt; full.write(b"abcd"), Ok(3));
     assert_eq!(rt; full.write(b""), Ok(0));
     assert_eq!(rt; full.write(b"d"), Err(Failed));
+    assert_eq!(rt; OutSink::new(Full).write(b"d"), Err(Failed));
+    Ok(())
+}
+
+#[test]
+fn keys(rt: HostRuntime) -> Result<(), Fail> {
+    let alloc = rt.alloc();
+    let texts = [
+        Text::from_slice(alloc, b"ab")?,
+        Text::from_slice(alloc, b"c")?,
+    ];
+    let others = [
+        Text::from_slice(alloc, b"a")?,
+        Text::from_slice(alloc, b"bc")?,
+    ];
+    let hash = HashKey::of(&texts).hash_one(7u64);
+    assert_eq!(rt; HashKey::of(&texts).hash_one(7u64), hash);
+    assert_ne!(rt; HashKey::of(&others).hash_one(7u64), hash);
+    assert_ne!(rt; HashKey::of(&[]).hash_one(7u64), hash);
     Ok(())
 }
 
