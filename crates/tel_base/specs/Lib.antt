@@ -1,4 +1,5 @@
 pub mod Bytes
+pub mod Digits
 pub mod Counts
 pub mod Given
 pub mod Literals

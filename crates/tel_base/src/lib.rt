@@ -3,8 +3,8 @@
 #![tactic(auto)]
 
 mod edge;
-mod literals;
 mod keys;
+mod literals;
 mod outside;
 mod places;
 mod sinks;
@@ -15,8 +15,8 @@ mod texts;
 mod writing;
 
 pub use edge::{FileSource, OutSink};
-pub use literals::{Clause, Lit};
 pub use keys::HashKey;
+pub use literals::{Clause, Lit};
 pub use outside::{Failed, Memory, Sink, Source};
 pub use places::Place;
 pub use sinks::{MemSink, NullSink};

@@ -1,4 +1,3 @@
-pub mod Decimals
 pub mod Found
 pub mod Going
 pub mod Lines

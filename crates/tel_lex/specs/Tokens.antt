@@ -1,6 +1,7 @@
 -- The tokens of a file and its first fault.
-use Rattle.std.specs.Prelude.{◌≡◌, ℕ, ◌+◌, ◌-◌, ◌*◌, ◌^◌, ◌<◌, Bool, true, false, not, ◌&&◌, ◌||◌, ◌==◌, nat_le, List, [], ◌∷◌, ◌++◌, length, map, fold, IsTrue, Option, Some, None, ◌⊎◌}
+use Rattle.std.specs.Prelude.{◌≡◌, ℕ, ◌+◌, ◌-◌, ◌^◌, ◌<◌, Bool, true, false, not, ◌&&◌, ◌||◌, ◌==◌, nat_le, List, [], ◌∷◌, ◌++◌, length, map, IsTrue, Option, Some, None, ◌⊎◌}
 use Rattle.std.specs.List.{list_all}
+use Rattle.tel_base.specs.Digits.{decimal}
 use Rattle.tel_base.specs.declared.places.Place.{Place}
 use Rattle.tel_lex.specs.declared.token.Token.{Token}
 use Rattle.tel_lex.specs.declared.token.TokenKind.{TokenKind}
@@ -87,10 +88,6 @@ pub record IsNext (kind : TokenKind) (text rest : List ℕ) : Type 0 where
   pub spelled : IsTrue (is_spelling kind text)
   pub longest : IsLongest text rest
   pub ends_word : EndsWord kind rest
-
--- the value of digits, the first of which counts most
-abbrev pub decimal : List ℕ → ℕ
-decimal digits = fold (λ value digit. 10 * value + (digit - 48)) 0 digits
 
 -- a number is at most 2147483647
 abbrev pub is_in_range : TokenKind → List ℕ → Bool

@@ -1,4 +1,3 @@
-pub mod Decimals
 pub mod Lengths
 pub mod Limits
 pub mod Lines

@@ -8,7 +8,8 @@ use Rattle.tel_settings.specs.declared.fields.Stop.{Stop}
 use Rattle.tel_settings.specs.declared.fields.Settings.{Settings}
 use Rattle.tel_settings.specs.declared.pieces.Piece.{Piece}
 use Rattle.tel_settings.specs.declared.pieces.Piece.TheVariants.{File, Imin, Imax, Istop}
-use Rattle.tel_settings.specs.Words.{decimal, is_number, is_file, limit_of, stop_of, after_name, option_of, piece_of}
+use Rattle.tel_base.specs.Digits.{decimal}
+use Rattle.tel_settings.specs.Words.{is_number, is_file, limit_of, stop_of, after_name, option_of, piece_of}
 use Rattle.tel_settings.specs.Command.{imin_in, imax_in, imins, imaxes, stop_rules, files, is_once, is_line, value_or, settings_of, IsWithinLimits}
 
 -- a value, where there is one, is a limit

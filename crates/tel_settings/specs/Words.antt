@@ -1,16 +1,13 @@
 -- What a word of the command line is.
-use Rattle.std.specs.Prelude.{ℕ, ◌+◌, ◌-◌, ◌*◌, Bool, not, ◌&&◌, ◌||◌, List, Option, Some, None, nat_eq, nat_le, bytes_eq, codes, length, drop, fold, if◌then◌else◌}
+use Rattle.std.specs.Prelude.{ℕ, Bool, not, ◌&&◌, ◌||◌, List, Option, Some, None, nat_eq, nat_le, bytes_eq, codes, length, drop, if◌then◌else◌}
 use Rattle.std.specs.Char.{is_ascii_digit}
 use Rattle.std.specs.List.{list_all, starts_with}
 use Rattle.std.specs.Option.{option_map}
+use Rattle.tel_base.specs.Digits.{decimal}
 use Rattle.tel_settings.specs.declared.fields.Stop.{Stop}
 use Rattle.tel_settings.specs.declared.fields.Stop.TheVariants.{Sat, Unsat, Unknown}
 use Rattle.tel_settings.specs.declared.pieces.Piece.{Piece}
 use Rattle.tel_settings.specs.declared.pieces.Piece.TheVariants.{File, Imin, Imax, Istop}
-
--- the value of decimal digits, the first of which counts most
-abbrev pub decimal : List ℕ → ℕ
-decimal digits = fold (λ value digit. 10 * value + (digit - 48)) 0 digits
 
 -- a number has 1 to 20 digits
 abbrev pub is_number : List ℕ → Bool

@@ -2,7 +2,8 @@ ghost use Rattle.std.specs.Prelude.{◌≡◌, ◌<◌, ◌≤◌, ◌^◌, true
 ghost use Rattle.std.specs.List.{list_all};
 ghost use Rattle.std.specs.Option.{option_copied};
 ghost use Rattle.std.specs.Char.{is_ascii_digit};
-ghost use Rattle.tel_settings.specs.Words.{decimal, is_number, limit_of, stop_of, is_file, after_name, piece_of};
+ghost use Rattle.tel_base.specs.Digits.{decimal};
+ghost use Rattle.tel_settings.specs.Words.{is_number, limit_of, stop_of, is_file, after_name, piece_of};
 
 use crate::fields::Stop;
 

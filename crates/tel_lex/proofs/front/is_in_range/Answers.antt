@@ -1,7 +1,7 @@
 use Rattle.std.proofs.Common.{◌<◌, ◌^◌, ◌-◌, length, sym, arith}
 use Rattle.std.proofs.lemmas.Bool.{lt-leb}
-use Rattle.tel_lex.specs.Tokens.{decimal}
-use Rattle.tel_lex.proofs.Decimals.{decimal_front}
+use Rattle.tel_base.specs.Digits.{decimal}
+use Rattle.tel_base.proofs.Decimals.{decimal_front}
 use Rattle.tel_lex.proofs.front.is_in_range.Goals as goal
 
 pub returns-then-value-gt-GREATEST : goal.returns-then-value-gt-GREATEST

@@ -1,5 +1,5 @@
 use Rattle.std.proofs.Common.{◌≡◌, ◌-◌, ◌^◌, ◌≤◌, take}
-use Rattle.tel_lex.specs.Tokens.{decimal}
+use Rattle.tel_base.specs.Digits.{decimal}
 use Rattle.tel_lex.proofs.front.is_in_range.Given as goal
 
 abbrev pub invariant-loop-digit : goal.invariant-loop-digit

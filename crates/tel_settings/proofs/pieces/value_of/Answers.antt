@@ -1,5 +1,5 @@
 use Rattle.std.proofs.Common.{◌<◌, length, arith}
-use Rattle.tel_settings.proofs.Decimals.{decimal_front}
+use Rattle.tel_base.proofs.Decimals.{decimal_front}
 use Rattle.tel_settings.proofs.pieces.value_of.Goals as goal
 
 pub returns-in_default-clause-none : goal.returns-in_default-clause-none

@@ -3,7 +3,7 @@ use Rattle.std.proofs.Common.{◌≡◌, ℕ, ◌+◌, ◌-◌, ◌*◌, ◌<◌
 use Rattle.std.specs.Prelude.{fold}
 use Rattle.std.proofs.lemmas.List.{take_more, take-append-drop}
 use Rattle.std.proofs.lemmas.List.Sums.{fold-append}
-use Rattle.tel_settings.specs.Words.{decimal}
+use Rattle.tel_base.specs.Digits.{decimal}
 
 -- one more digit
 abbrev with_digit : ℕ → ℕ → ℕ
