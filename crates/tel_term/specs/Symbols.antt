@@ -1,5 +1,5 @@
 -- Names and strings numbered in the order in which they are first seen, from 0.
-use Rattle.std.specs.Prelude.{ℕ, suc, ◌^◌, ◌<◌, Bool, true, false, ◌&&◌, ◌||◌, not, if◌then◌else◌, List, [], ◌∷◌, ◌++◌, length, slice_get, Option, Some, IsTrue}
+use Rattle.std.specs.Prelude.{ℕ, suc, ◌^◌, ◌<◌, Bool, true, false, ◌&&◌, ◌||◌, not, if◌then◌else◌, List, [], ◌∷◌, ◌++◌, length, nat_lt, slice_get, Option, Some, IsTrue}
 use Rattle.std.specs.List.{list_all, list_any}
 use Rattle.std.specs.Ordering.{int_eq}
 use Rattle.std.specs.Str.{bytes_eq}
@@ -48,6 +48,11 @@ value_of table (terms.Str bytes) = values.Sym (place_of table (terms.Str bytes))
 abbrev pub term_of : List Term → Value → Option Term
 term_of table (values.Num n) = Some (terms.Num n)
 term_of table (values.Sym place) = slice_get table place
+
+-- whether a value is a symbol of this table
+abbrev pub is_symbol_of : List Term → Value → Bool
+is_symbol_of table (values.Num n) = false
+is_symbol_of table (values.Sym place) = nat_lt place (length table)
 
 -- whether each term stands once
 abbrev pub is_distinct : List Term → Bool

@@ -1,18 +1,18 @@
 //! Names and strings under numbers.
-ghost use Rattle.std.specs.Prelude.{◌≡◌, ◌+◌, ◌-◌, ◌^◌, ◌<◌, ◌≤◌, [], length, Some, slice_get, IfOk, OnOk, OnErr};
-ghost use Rattle.tel_term.specs.Symbols.{IsTable, with_term, value_of};
+ghost use Rattle.std.specs.Prelude.{◌≡◌, ◌+◌, ◌-◌, ◌^◌, ◌<◌, ◌≤◌, [], length, Some, IsTrue, IfOk, OnOk, OnErr};
+ghost use Rattle.tel_term.specs.Symbols.{IsTable, is_symbol_of, with_term, value_of, term_of};
 
 use crate::terms::{Term, Value};
 use indexmap::IndexSet;
 use std::alloc::Global;
 use std::marker::Model;
-use tel_base::Memory;
+use tel_base::{HashKey, Memory};
 
 /// The names and strings that were asked for, numbered from 0 in the order in which they were first
-/// seen. Contracts see them as their list, in this order.
+/// seen. Contracts see them as their list, in this order. The key of its hashes changes no answer.
 #[derive(Drop)]
 pub struct Symbols {
-    terms: IndexSet<Term>,
+    terms: IndexSet<Term, HashKey>,
 }
 
 impl Model for Symbols {
@@ -28,12 +28,19 @@ impl Model for Symbols {
 }
 
 impl Symbols {
-    /// The empty table. It takes no memory.
+    /// The empty table, for names that nobody chose to collide. It takes no memory.
     pub fn new(alloc: Global) -> Symbols
         ensures { result ≡ [] }
     {
+        Symbols::keyed(alloc, HashKey::of(&[]))
+    }
+
+    /// The empty table, whose names are hashed by this key. It takes no memory.
+    pub fn keyed(alloc: Global, key: HashKey) -> Symbols
+        ensures { result ≡ [] }
+    {
         Symbols {
-            terms: IndexSet::new(alloc),
+            terms: IndexSet::with_hasher(alloc, key),
         }
     }
 
@@ -64,11 +71,14 @@ impl Symbols {
         Ok(Value::Sym(place as u32))
     }
 
-    /// The name or string with this number.
-    pub fn term(&self, symbol: u32) -> &Term
-        requires { symbol < length self.now }
-        ensures { slice_get self.now symbol ≡ Some result.now }
+    /// The name or string that this value stands for, which is a symbol of this table.
+    pub fn term(&self, value: Value) -> &Term
+        requires { IsTrue (is_symbol_of self.now value) }
+        ensures { term_of self.now value ≡ Some result.now }
     {
-        &self.terms.as_slice()[symbol as usize]
+        match value {
+            Value::Sym(place) => &self.terms.as_slice()[place as usize],
+            Value::Num(_) => unreachable!(),
+        }
     }
 }

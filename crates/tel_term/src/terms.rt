@@ -10,7 +10,7 @@ pub enum Term {
 
 /// What stands for a term: a number for itself, and a symbol for a name or a string, by its number in
 /// the table of symbols.
-#[derive(Clone, Copy, Debug, PartialEq, Eq)]
+#[derive(Clone, Copy, Debug, PartialEq, Eq, Hash)]
 pub enum Value {
     Num(i32),
     Sym(u32),

@@ -1,7 +1,7 @@
 use super::*;
 use std::alloc::Global;
 use std::test::Fail;
-use tel_base::Text;
+use tel_base::{HashKey, Text};
 
 fn symbol(alloc: Global, is_string: bool, bytes: &str) -> Result<Term, Fail> {
     let text = Text::from_slice(alloc, bytes.as_bytes())?;
@@ -20,9 +20,9 @@ fn ask(symbols: &mut Symbols, term: Term) -> Result<Value, Fail> {
     Ok(symbols.value(term)?)
 }
 
-// Whether the term with this number is this one.
+// Whether the symbol with this number stands for this term.
 fn stands(symbols: &Symbols, number: u32, term: &Term) -> bool {
-    number < symbols.len() && symbols.term(number) == term
+    number < symbols.len() && symbols.term(Value::Sym(number)) == term
 }
 
 #[test]
@@ -53,7 +53,8 @@ fn numbered_terms(rt: HostRuntime) -> Result<(), Fail> {
 #[test]
 fn many_names(rt: HostRuntime) -> Result<(), Fail> {
     let alloc = rt.alloc();
-    let mut symbols = Symbols::new(alloc);
+    let texts = [Text::from_slice(alloc, b"a text")?];
+    let mut symbols = Symbols::keyed(alloc, HashKey::of(&texts));
     for count in 0..2000u32 {
         let text = format!(in alloc; "a{}", count % 1000)?;
         let value = ask(&mut symbols, symbol(alloc, false, text.as_str())?)?;

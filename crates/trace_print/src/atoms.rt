@@ -113,7 +113,7 @@ fn put_value<O: Sink, const ROOM: usize>(
 {
     match value {
         Value::Num(number) => put_number(out, waiting, number),
-        Value::Sym(symbol) => put_term(out, waiting, symbols.term(symbol)),
+        Value::Sym(_) => put_term(out, waiting, symbols.term(value)),
     }
 }
 
@@ -226,7 +226,7 @@ fn put_ground<O: Sink, const ROOM: usize>(
         Ok(()) => {}
         Err(fault) => return Err(fault),
     }
-    match put(out, waiting, name_of(symbols.term(atom.name))) {
+    match put(out, waiting, name_of(symbols.term(Value::Sym(atom.name)))) {
         Ok(()) => put_args(out, waiting, symbols, atom.args.as_slice()),
         Err(fault) => Err(fault),
     }
