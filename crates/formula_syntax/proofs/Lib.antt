@@ -2,8 +2,10 @@ pub mod Chains
 pub mod Choices
 pub mod Dependents
 pub mod Digits
+pub mod Exclusive
 pub mod Families
 pub mod FormulaFamilies
+pub mod Fronts
 pub mod Gathers
 pub mod Levels
 pub mod Manies

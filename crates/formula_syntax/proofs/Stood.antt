@@ -11,7 +11,9 @@ use Rattle.formula_syntax.specs.Steps.{Unexpected, Deep, Read, Got, Reader}
 use Rattle.formula_syntax.specs.Grammar.{IsExpr, IsFormula}
 use Rattle.formula_syntax.specs.Reading.{read_expr, read_formula}
 use Rattle.formula_syntax.specs.Given.{point_at, IfSyntax, IfTooDeep, ReadUpTo, StopsAt}
-use Rattle.formula_syntax.specs.Reached.{StandsUpTo, SyntaxAt, TooDeepAt, OneExpr, OneFormula}
+use Rattle.formula_syntax.specs.Refusals.{OneOutcome}
+use Rattle.formula_syntax.specs.Reached.{StandsUpTo, SyntaxAt, TooDeepAt, OneAnswer, OneExpr, OneFormula}
+use Rattle.formula_syntax.proofs.Exclusive.{outcome-same, one_outcome, one_answer}
 use Rattle.formula_syntax.proofs.Steady.{Steady}
 use Rattle.formula_syntax.proofs.Outcomes.{Family, stands, syntax, too_deep, one_thing}
 use Rattle.formula_syntax.proofs.Families.{more_sum, expr-known, expr-family}
@@ -51,3 +53,15 @@ steady_expr n = (expr-known n).steady
 
 pub steady_formula : (n : ℕ) → Steady (read_formula n)
 steady_formula n = (formula-known n).steady
+
+pub expr-outcome : OneOutcome IsExpr
+expr-outcome = one_outcome IsExpr read_expr more_sum expr-family steady_expr
+
+pub formula-outcome : OneOutcome IsFormula
+formula-outcome = one_outcome IsFormula read_formula more_formula formula-family steady_formula
+
+pub expr-answer : OneAnswer IsExpr
+expr-answer = one_answer IsExpr (outcome-same IsExpr read_expr more_sum expr-family steady_expr)
+
+pub formula-answer : OneAnswer IsFormula
+formula-answer = one_answer IsFormula (outcome-same IsFormula read_formula more_formula formula-family steady_formula)

@@ -1,8 +1,10 @@
 -- What stands at a token, and where tokens stop being a thing, by the places of tokens.
-use Rattle.std.specs.Prelude.{◌≡◌, ℕ, ◌+◌, ◌-◌, ◌≤◌, List, [], length, drop}
+use Rattle.std.specs.Prelude.{◌≡◌, ℕ, ◌+◌, ◌-◌, ◌≤◌, List, [], length, drop, Result, Ok, Err}
 use Rattle.tel_lex.specs.declared.token.Token.{Token}
 use Rattle.tel_term.specs.declared.exprs.Expr.{Expr}
 use Rattle.tel_rule.specs.declared.formulas.Formula.{Formula}
+use Rattle.formula_syntax.specs.declared.fault.FormulaFault.{FormulaFault}
+use Rattle.formula_syntax.specs.declared.fault.FormulaFault.TheVariants as faults
 use Rattle.formula_syntax.specs.declared.names.Names.{Names}
 use Rattle.formula_syntax.specs.Points.{Word, Known, at, words_of}
 use Rattle.formula_syntax.specs.Shapes.{Grammar}
@@ -29,6 +31,17 @@ pub record TooDeepAt {A : Type 0} (F : ℕ → Grammar A) (levels : ℕ) (old : 
   pub from : place ≤ end
   pub within : end ≤ length tokens
   pub stops : IsTooDeep F levels (point_at old tokens place) (words_of (drop end tokens))
+
+-- what a call may answer but for want of memory: the thing that stands at the token, or why none does
+abbrev pub IsAnswer : {A : Type 0} → (ℕ → Grammar A) → ℕ → Names → Names → List Token → ℕ → Result (A × ℕ) FormulaFault → Type 0
+IsAnswer F levels old new tokens place (Ok read) = StandsUpTo F levels old new tokens place read.0 read.1
+IsAnswer F levels old new tokens place (Err (faults.Syntax end)) = SyntaxAt F levels old tokens place end
+IsAnswer F levels old new tokens place (Err (faults.TooDeep end)) = TooDeepAt F levels old tokens place end
+IsAnswer F levels old new tokens place (Err faults.Memory) = ⊥
+
+-- tokens have one answer at the most, also where tokens are left behind it
+abbrev pub OneAnswer : {A : Type 0} → (ℕ → Grammar A) → Type 0
+OneAnswer {A = A} F = (levels : ℕ) (old new last : Names) (tokens : List Token) (place : ℕ) (a b : Result (A × ℕ) FormulaFault) → IsAnswer F levels old new tokens place a → IsAnswer F levels old last tokens place b → a ≡ b
 
 -- words are one expression at the most, at whatever levels
 abbrev pub OneExpr : Type 0

@@ -2,6 +2,7 @@
 use Rattle.std.specs.Prelude.{◌≡◌, ℕ, List, [], ◌∷◌, ◌++◌}
 use Rattle.formula_syntax.specs.Points.{Word, Known, Point, at}
 use Rattle.formula_syntax.specs.Shapes.{Grammar}
+use Rattle.formula_syntax.specs.Steps.{Unexpected, Deep, Read, Got, Stuck}
 
 -- with some words behind them the words are a thing
 pub record Begins {A : Type 0} (F : Grammar A) (known : Known) (words : List Word) : Type 0 where
@@ -45,3 +46,13 @@ pub record IsTooDeep {A : Type 0} (F : ℕ → Grammar A) (levels : ℕ) (from :
   pub first : rest ≡ word ∷ behind
   pub deeper : Begins (AtSomeLevel F) from.known (front ++ word ∷ [])
   pub none : Begins (F levels) from.known (front ++ word ∷ []) → ⊥
+
+-- what stands at a point, or why nothing does
+abbrev pub IsOutcome : {A : Type 0} → (ℕ → Grammar A) → ℕ → Point → Read A → Type 0
+IsOutcome F levels from (Got thing to) = Stands F levels from thing to
+IsOutcome F levels from (Stuck Unexpected rest) = IsSyntax F levels from rest
+IsOutcome F levels from (Stuck Deep rest) = IsTooDeep F levels from rest
+
+-- at each point there is one outcome, and no other
+abbrev pub OneOutcome : {A : Type 0} → (ℕ → Grammar A) → Type 0
+OneOutcome {A = A} F = (levels : ℕ) (from : Point) → (outcome : Read A) × IsOutcome F levels from outcome × ((other : Read A) → IsOutcome F levels from other → other ≡ outcome)

@@ -18,7 +18,7 @@ mod senses;
 pub use atoms::{Signed, primes};
 pub use entry::{expr, formula};
 pub use fault::FormulaFault;
-pub use laws::one_tree;
+pub use laws::{one_answer, one_outcome, one_tree};
 pub use literals::number_of;
 pub use marks::Mark;
 pub use names::Names;
