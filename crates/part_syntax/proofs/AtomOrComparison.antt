@@ -390,9 +390,6 @@ atom-compares n from item to m end =
 
 -- ---- comparisons are told from atoms
 
-or-one : (a b : Word → Bool) (words : List Word) → begins a words ≡ true → begins (or_also a b) words ≡ true
-or-one a b words is = begins-left a b words is
-
 goes_on-product : (words : List Word) → begins (passes product_op) words ≡ true → begins goes_on words ≡ true
 goes_on-product words is = begins-left (passes product_op) (or_also (passes sum_op) (passes relation)) words is
 

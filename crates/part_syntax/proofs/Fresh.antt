@@ -61,7 +61,3 @@ module _ (n : ℕ) where
   -- the items of a text, whether the variables of each are forgotten behind it or not
   pub fresh_text : (from : Point) → forgotten (read_text n from) ≡ forgotten (each starts_item (fresh_stated n) from)
   fresh_text from = texts_same (length from.words) from
-
-  -- the variables known before a text make no difference to it
-  pub cleared_text : (from : Point) → forgotten (read_text n from) ≡ forgotten (read_text n (cleared from))
-  cleared_text from = fresh_text from ∙ fresh_same (length from.words) from ∙ sym (fresh_text (cleared from))

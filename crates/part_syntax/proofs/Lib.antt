@@ -1,5 +1,6 @@
 pub mod AtomOrComparison
 pub mod Bodies
+pub mod Decided
 pub mod Enclosed
 pub mod Fresh
 pub mod Lengths

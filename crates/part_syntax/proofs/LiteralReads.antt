@@ -16,7 +16,7 @@ use Rattle.formula_syntax.specs.Reading.{read_formula, starts_atom}
 use Rattle.formula_syntax.proofs.Readers.{nothing}
 use Rattle.formula_syntax.proofs.Nonterminals.{Lifts, Apart, Passing, one-lifts, made-lifts, then-lifts, either-lifts, maybe-lifts, operand-lifts}
 use Rattle.formula_syntax.proofs.Families.{passing-ampersand, more_sum, not-sum}
-use Rattle.formula_syntax.proofs.FormulaFamilies.{more_sign, more_atom, more_formula, starts_unary, formula-known, formula-lifts, GoesOnBy, formula-ends, either-of}
+use Rattle.formula_syntax.proofs.FormulaFamilies.{more_atom, more_formula, starts_unary, formula-known, formula-lifts, GoesOnBy, formula-ends, either-of}
 use Rattle.part_syntax.specs.Grammar.{not_word, is_not, if_sign, is_if, stop, is_stop, dots, is_dots, semicolon, is_semicolon, separator, is_separator, open_brace, close_brace, is_close_brace, equal, slash, program_word, const_word, show_word, tel_word, part, arity, relation, relation_of, literal, tel_of, negated_of, chain_of, body_of, IsTel, IsAtomItem, IsLiteral, IsBody, IsTail}
 use Rattle.part_syntax.specs.Reading.{goes_on, read_tel, read_plain, read_atom_item, read_item_of, read_negated, read_literal, read_body, read_tail, starts_plain, starts_literal}
 use Rattle.part_syntax.proofs.ReadBy.{Read_by, Opened_by, known-read, one-read, made-read, then-read, then-read_from, either-read, maybe-opened, operand-read, chain-read, chain-lifts}
@@ -120,9 +120,6 @@ ends-semicolon_of _ is = absurd (false≢true is)
 
 pub sum-ends : (word : Word) → Ends word → more_sum word ≡ false
 sum-ends word e = not-sum word (e.products, e.sums)
-
-pub sign-ends : (word : Word) → Ends word → more_sign word ≡ false
-sign-ends word e = rw e.primes refl
 
 pub atom-ends : (word : Word) → Ends word → more_atom word ≡ false
 atom-ends word e = rw (e.primes, e.openings) refl

@@ -1,76 +1,26 @@
 -- Texts have one first fault at the most.
-use Rattle.std.proofs.Common.{◌≡◌, ℕ, ◌+◌, List, [], ◌∷◌, ◌++◌, Option, Some, None, refl, sym, ap, subst, ◌∙◌, append_assoc, inl, inr}
-use Rattle.std.specs.Prelude.{◌⊎◌}
+use Rattle.std.proofs.Common.{◌≡◌, ℕ, ◌+◌, List, [], ◌∷◌, ◌++◌, Option, Some, None, sym, ap, subst, ◌∙◌, inl, inr}
 use Rattle.tel_base.specs.declared.places.Place.{Place}
 use Rattle.tel_lex.specs.declared.fault.LexFault.{LexFault}
 use Rattle.tel_lex.specs.declared.fault.LexFault.TheVariants as lexing
 use Rattle.tel_lex.proofs.Once.{one_reading}
-use Rattle.formula_syntax.specs.Points.{Word, Known, at}
+use Rattle.formula_syntax.specs.Points.{Word, Known}
 use Rattle.formula_syntax.specs.Refusals.{Begins, AtSomeLevel}
+use Rattle.formula_syntax.proofs.Fronts.{SameSplit, compared, past-begins, all-begins, some-level}
 use Rattle.part_syntax.specs.declared.fault.ReadFault.{ReadFault}
 use Rattle.part_syntax.specs.declared.fault.ReadFault.TheVariants as faults
 use Rattle.part_syntax.specs.Grammar.{IsText}
 use Rattle.part_syntax.specs.Programs.{levels, unknown, IsSyntaxAt, IsDeepAt, IsLexicalAt, Stops, FaultOfWords, FaultOfText, FaultOfTexts, IsFirstFault}
-use Rattle.part_syntax.proofs.OneProgram.{same-text, text-no, some-level}
+use Rattle.part_syntax.proofs.OneProgram.{same-text, text-no}
 
--- ---- two fronts of the same words
-
--- the second front goes on behind the first one with the word there
-record GoesPast (front rest other : List Word) : Type 0 where
-  word : Word
-  behind : List Word
-  more : List Word
-  rest_is : rest ≡ word ∷ behind
-  other_is : other ≡ (front ++ word ∷ []) ++ more
-
-record SameSplit (front rest other behind : List Word) : Type 0 where
-  fronts_are : front ≡ other
-  rests_are : rest ≡ behind
-
-abbrev Compared : List Word → List Word → List Word → List Word → Type 0
-Compared front rest other behind = SameSplit front rest other behind ⊎ (GoesPast front rest other ⊎ GoesPast other behind front)
-
-past-more : (word : Word) (front rest other : List Word) → GoesPast front rest other → GoesPast (word ∷ front) rest (word ∷ other)
-past-more word front rest other g = record { word = g.word; behind = g.behind; more = g.more; rest_is = g.rest_is; other_is = ap (λ (ws : List Word). word ∷ ws) g.other_is }
-
-compared-more : (word : Word) (front rest other behind : List Word) → Compared front rest other behind → Compared (word ∷ front) rest (word ∷ other) behind
-compared-more word front rest other behind (inl same) = inl (record { fronts_are = ap (λ (ws : List Word). word ∷ ws) same.fronts_are; rests_are = same.rests_are })
-compared-more word front rest other behind (inr (inl g)) = inr (inl (past-more word front rest other g))
-compared-more word front rest other behind (inr (inr g)) = inr (inr (past-more word other behind front g))
-
-compared : (front rest other behind : List Word) → front ++ rest ≡ other ++ behind → Compared front rest other behind
-compared [] rest [] behind e = inl (record { fronts_are = refl; rests_are = e })
-compared [] rest (word ∷ other) behind e = inr (inl (record { word = word; behind = other ++ behind; more = other; rest_is = e; other_is = refl }))
-compared (word ∷ front) rest [] behind e = inr (inr (record { word = word; behind = front ++ rest; more = front; rest_is = sym e; other_is = refl }))
-compared (word ∷ front) rest (word' ∷ other) behind e =
-    let a : word ≡ word' = cc in
-    let b : front ++ rest ≡ other ++ behind = cc in
-    subst (λ (w : Word). Compared (word ∷ front) rest (w ∷ other) behind) a (compared-more word front rest other behind (compared front rest other behind b))
-
--- ---- what begins a text
-
-begins-front : (n : ℕ) (known : Known) (front more : List Word) → Begins (IsText n) known (front ++ more) → Begins (IsText n) known front
-begins-front n known front more b =
-    record {
-      more = more ++ b.more;
-      thing = b.thing;
-      later = b.later;
-      reads = subst (λ (ws : List Word). IsText n (at known ws) b.thing (at b.later [])) (append_assoc front more b.more) b.reads;
-    }
-
-past-begins : (n : ℕ) (known : Known) (front rest other : List Word) → (g : GoesPast front rest other) → Begins (IsText n) known other → Begins (IsText n) known (front ++ g.word ∷ [])
-past-begins n known front rest other g b = begins-front n known (front ++ g.word ∷ []) g.more (subst (λ (ws : List Word). Begins (IsText n) known ws) g.other_is b)
-
-all-begins : (n : ℕ) (known : Known) (words front : List Word) (word : Word) (behind : List Word) → words ≡ front ++ word ∷ behind → Begins (IsText n) known words → Begins (IsText n) known (front ++ word ∷ [])
-all-begins n known words front word behind whole b =
-    begins-front n known (front ++ word ∷ []) behind (subst (λ (ws : List Word). Begins (IsText n) known ws) (whole ∙ sym (append_assoc front (word ∷ []) behind)) b)
+-- ---- where words stop a text
 
 -- where words stop a text, the word there goes on with none
 stops-past : (n : ℕ) (known : Known) (front rest : List Word) (fault : Option LexFault) (end place : Place) → Stops n known front rest fault end place → (word : Word) (behind : List Word) → rest ≡ word ∷ behind → Begins (IsText n) known (front ++ word ∷ []) → ⊥
 stops-past n known front [] fault end place s word behind is b = absurd cc
 stops-past n known front (first ∷ more) fault end place s word behind is b =
     let e : word ≡ first = cc in
-    s.1 (some-level n known (front ++ first ∷ []) (subst (λ (w : Word). Begins (IsText n) known (front ++ w ∷ [])) e b))
+    s.1 (some-level IsText n known (front ++ first ∷ []) (subst (λ (w : Word). Begins (IsText n) known (front ++ w ∷ [])) e b))
 
 deep-past : (n : ℕ) (known : Known) (words : List Word) (place : Place) (d : IsDeepAt n known words place) (word : Word) (behind : List Word) → d.word ∷ d.behind ≡ word ∷ behind → Begins (IsText n) known (d.front ++ word ∷ []) → ⊥
 deep-past n known words place d word behind is b =
@@ -83,24 +33,24 @@ lexical-same : (n : ℕ) (known : Known) (words : List Word) (fault : Option Lex
 lexical-same n known words fault a b p q = let e : Some a ≡ Some b = sym p.fault_is ∙ q.fault_is in cc
 
 lexical-deep : (n : ℕ) (known : Known) (words : List Word) (fault : Option LexFault) (a : LexFault) (place : Place) → IsLexicalAt n known words fault a → IsDeepAt n known words place → ⊥
-lexical-deep n known words fault a place p d = d.none (all-begins n known words d.front d.word d.behind d.whole p.begun)
+lexical-deep n known words fault a place p d = d.none (all-begins (IsText n) known words d.front d.word d.behind d.whole p.begun)
 
 lexical-stops : (n : ℕ) (known : Known) (words front rest : List Word) (fault : Option LexFault) (a : LexFault) (end place : Place) → IsLexicalAt n known words fault a → words ≡ front ++ rest → Stops n known front rest fault end place → ⊥
 lexical-stops n known words front [] fault a end place p whole s = let e : Some a ≡ None = sym p.fault_is ∙ s.0 in absurd cc
-lexical-stops n known words front (word ∷ behind) fault a end place p whole s = s.1 (some-level n known (front ++ word ∷ []) (all-begins n known words front word behind whole p.begun))
+lexical-stops n known words front (word ∷ behind) fault a end place p whole s = s.1 (some-level IsText n known (front ++ word ∷ []) (all-begins (IsText n) known words front word behind whole p.begun))
 
 deep-same : (n : ℕ) (known : Known) (words : List Word) (a b : Place) → IsDeepAt n known words a → IsDeepAt n known words b → a ≡ b
 deep-same n known words a b d e = elim (compared d.front (d.word ∷ d.behind) e.front (e.word ∷ e.behind) (sym d.whole ∙ e.whole)) [
   | inl same ↦ let w : d.word ≡ e.word = let r = same.rests_are in cc in d.place_is ∙ ap (λ (x : Word). x.place) w ∙ sym e.place_is
-  | inr (inl g) ↦ absurd (deep-past n known words a d g.word g.behind g.rest_is (past-begins n known d.front (d.word ∷ d.behind) e.front g e.begun))
-  | inr (inr g) ↦ absurd (deep-past n known words b e g.word g.behind g.rest_is (past-begins n known e.front (e.word ∷ e.behind) d.front g d.begun))
+  | inr (inl g) ↦ absurd (deep-past n known words a d g.word g.behind g.rest_is (past-begins (IsText n) known d.front (d.word ∷ d.behind) e.front g e.begun))
+  | inr (inr g) ↦ absurd (deep-past n known words b e g.word g.behind g.rest_is (past-begins (IsText n) known e.front (e.word ∷ e.behind) d.front g d.begun))
 ]
 
 deep-stops : (n : ℕ) (known : Known) (words : List Word) (place : Place) → IsDeepAt n known words place → (fault : Option LexFault) (end other : Place) → IsSyntaxAt n known words fault end other → ⊥
 deep-stops n known words place d fault end other s = elim (compared d.front (d.word ∷ d.behind) s.front s.rest (sym d.whole ∙ s.whole)) [
   | inl same ↦ deep-stops_at n known d.front d.word d.behind d.deeper s.front s.rest same fault end other s.stops
-  | inr (inl g) ↦ deep-past n known words place d g.word g.behind g.rest_is (past-begins n known d.front (d.word ∷ d.behind) s.front g s.begun)
-  | inr (inr g) ↦ stops-past n known s.front s.rest fault end other s.stops g.word g.behind g.rest_is (past-begins n known s.front s.rest d.front g d.begun)
+  | inr (inl g) ↦ deep-past n known words place d g.word g.behind g.rest_is (past-begins (IsText n) known d.front (d.word ∷ d.behind) s.front g s.begun)
+  | inr (inr g) ↦ stops-past n known s.front s.rest fault end other s.stops g.word g.behind g.rest_is (past-begins (IsText n) known s.front s.rest d.front g d.begun)
 ] where
   deep-stops_at : (n' : ℕ) (known' : Known) (front : List Word) (word : Word) (behind : List Word) → Begins (AtSomeLevel IsText) known' (front ++ word ∷ []) → (front' rest : List Word) → SameSplit front (word ∷ behind) front' rest → (fault' : Option LexFault) (end' other' : Place) → Stops n' known' front' rest fault' end' other' → ⊥
   deep-stops_at n' known' front word behind b front' [] same fault' end' other' stops = let r = same.rests_are in absurd cc
@@ -117,8 +67,8 @@ stops-place n known front other (word ∷ rest) (word' ∷ behind) fault end a b
 syntax-same : (n : ℕ) (known : Known) (words : List Word) (fault : Option LexFault) (end a b : Place) → IsSyntaxAt n known words fault end a → IsSyntaxAt n known words fault end b → a ≡ b
 syntax-same n known words fault end a b s t = elim (compared s.front s.rest t.front t.rest (sym s.whole ∙ t.whole)) [
   | inl same ↦ stops-place n known s.front t.front s.rest t.rest fault end a b same.rests_are s.stops t.stops
-  | inr (inl g) ↦ absurd (stops-past n known s.front s.rest fault end a s.stops g.word g.behind g.rest_is (past-begins n known s.front s.rest t.front g t.begun))
-  | inr (inr g) ↦ absurd (stops-past n known t.front t.rest fault end b t.stops g.word g.behind g.rest_is (past-begins n known t.front t.rest s.front g s.begun))
+  | inr (inl g) ↦ absurd (stops-past n known s.front s.rest fault end a s.stops g.word g.behind g.rest_is (past-begins (IsText n) known s.front s.rest t.front g t.begun))
+  | inr (inr g) ↦ absurd (stops-past n known t.front t.rest fault end b t.stops g.word g.behind g.rest_is (past-begins (IsText n) known t.front t.rest s.front g s.begun))
 ]
 
 bad-same : (a b : Place) → lexing.BadByte a ≡ lexing.BadByte b → faults.BadByte a ≡ faults.BadByte b

@@ -9,8 +9,9 @@ use Rattle.tel_rule.specs.declared.parts.Part.TheVariants as parts
 use Rattle.tel_rule.specs.declared.statements.Statement.{Statement}
 use Rattle.tel_rule.specs.declared.statements.Program.{Program}
 use Rattle.formula_syntax.specs.Points.{Word, Known, Point, at}
-use Rattle.formula_syntax.specs.Refusals.{Begins, AtSomeLevel}
+use Rattle.formula_syntax.specs.Refusals.{Begins}
 use Rattle.formula_syntax.specs.Steps.{Read, Got}
+use Rattle.formula_syntax.proofs.Fronts.{some-level}
 use Rattle.part_syntax.specs.declared.fault.ReadFault.{ReadFault}
 use Rattle.part_syntax.specs.declared.fault.ReadFault.TheVariants as faults
 use Rattle.part_syntax.specs.Grammar.{Stated, IsText, statements_in}
@@ -76,14 +77,11 @@ text-begins n known later words front word behind stated items whole =
       reads = subst (λ (ws : List Word). IsText n (at known ws) stated (at later [])) (whole ∙ sym (append_assoc front (word ∷ []) behind)) items;
     }
 
-pub some-level : (n : ℕ) (known : Known) (words : List Word) → Begins (IsText n) known words → Begins (AtSomeLevel IsText) known words
-some-level n known words b = record { more = b.more; thing = b.thing; later = b.later; reads = (n, b.reads) }
-
 stops-no : (n : ℕ) (known later : Known) (words front rest : List Word) (fault : Option LexFault) (end place : Place) (stated : List Stated) → IsText n (at known words) stated (at later []) → words ≡ front ++ rest → Stops n known front rest fault end place → ⊥
 stops-no n known later words front [] fault end place stated items whole stops =
     stops.2 (record { thing = stated; later = later; reads = (n, subst (λ (ws : List Word). IsText n (at known ws) stated (at later [])) (whole ∙ append-nil front) items) })
 stops-no n known later words front (word ∷ behind) fault end place stated items whole stops =
-    stops.1 (some-level n known (front ++ word ∷ []) (text-begins n known later words front word behind stated items whole))
+    stops.1 (some-level IsText n known (front ++ word ∷ []) (text-begins n known later words front word behind stated items whole))
 
 lexical-no : (n : ℕ) (known : Known) (words : List Word) (fault : Option LexFault) (first : LexFault) → IsLexicalAt n known words fault first → fault ≡ None → ⊥
 lexical-no n known words fault first l none = let e : Some first ≡ None = sym l.fault_is ∙ none in absurd cc

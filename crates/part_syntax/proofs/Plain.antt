@@ -1,16 +1,10 @@
 -- The expressions of a tuple, with one argument more at its end; and heads.
-use Rattle.std.proofs.Common.{◌≡◌, ℕ, true, List, [], ◌∷◌, ◌++◌, Option, Some, None, refl, sym, ap, ◌∙◌}
-use Rattle.std.specs.Prelude.{◌≢◌}
+use Rattle.std.proofs.Common.{◌≡◌, List, [], ◌∷◌, ◌++◌, Option, Some, None, refl, sym, ap, ◌∙◌}
 use Rattle.std.specs.Option.{option_map}
 use Rattle.tel_term.specs.declared.exprs.Expr.{Expr}
 use Rattle.tel_rule.specs.declared.statements.Arg.{Arg}
 use Rattle.tel_rule.specs.declared.statements.Arg.TheVariants as args
-use Rattle.tel_rule.specs.declared.statements.Fact.{Fact}
-use Rattle.tel_rule.specs.declared.statements.Head.{Head}
-use Rattle.formula_syntax.specs.Points.{Point, begins}
-use Rattle.formula_syntax.specs.Steps.{made, one, passes}
-use Rattle.part_syntax.specs.Grammar.{plain_args, head_at, stop, fact_item}
-use Rattle.part_syntax.specs.Reading.{read_behind}
+use Rattle.part_syntax.specs.Grammar.{plain_args}
 
 one_first : (first last : Expr) (o : Option (List Expr)) → option_map (λ (rest : List Expr). first ∷ rest) (option_map (λ (xs : List Expr). xs ++ last ∷ []) o) ≡ option_map (λ (xs : List Expr). xs ++ last ∷ []) (option_map (λ (rest : List Expr). first ∷ rest) o)
 one_first first last None = refl
@@ -25,23 +19,6 @@ pub plain_range : (front : List Arg) (first last : Expr) → plain_args (front +
 plain_range [] first last = refl
 plain_range (args.One start ∷ more) first last = ap (option_map (λ (rest : List Expr). start ∷ rest)) (plain_range more first last)
 plain_range (args.Range start end ∷ more) first last = refl
-
-head_two : (fact : Fact) (first last : List Arg) (more : List (List Arg)) → head_at fact (first ∷ (more ++ last ∷ [])) ≡ None
-head_two fact first last [] = refl
-head_two fact first last (next ∷ more) = refl
-
--- facts of more than one tuple are no head
-pub head_more : (fact : Fact) (tuples front : List (List Arg)) (last : List Arg) → tuples ≡ front ++ last ∷ [] → front ≢ [] → head_at fact tuples ≡ None
-head_more fact tuples [] last is some = absurd (some refl)
-head_more fact tuples (first ∷ more) last is some = ap (head_at fact) is ∙ head_two fact first last more
-
-pub head_only : (fact : Fact) (tuples front : List (List Arg)) (last : List Arg) → tuples ≡ front ++ last ∷ [] → front ≡ [] → head_at fact tuples ≡ head_at fact (last ∷ [])
-head_only fact tuples front last is none = ap (head_at fact) (is ∙ ap (λ (xs : List (List Arg)). xs ++ last ∷ []) none)
-
--- a stop behind facts ends them, whether they are a head or not
-pub behind_stop : (n : ℕ) (fact : Fact) (head : Option Head) (from : Point) → begins (passes stop) from.words ≡ true → read_behind n fact head from ≡ made (fact_item fact) (one stop) from
-behind_stop n fact None from is = refl
-behind_stop n fact (Some head) from is = rw is refl
 
 pub range_none : (tuple front : List Arg) (first last : Expr) → tuple ≡ front ++ args.Range first last ∷ [] → None ≡ plain_args tuple
 range_none tuple front first last is = sym (ap plain_args is ∙ plain_range front first last)

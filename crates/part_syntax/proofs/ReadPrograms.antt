@@ -43,10 +43,6 @@ elsewhere n known symbols words (first ∷ more) later same items =
       symbols_are = refl;
     }
 
--- what is read there, but for the variables that are known where nothing is read
-record SameFault (fault : Option LexFault) (end : Place) (a b : Read (List Stated)) : Type 0 where
-  is : fault_of fault end a ≡ fault_of fault end b
-
 round-same : (n m : ℕ) (known : Known) (symbols : List Term) (words : List Word) → known.symbols ≡ symbols → round (read_stated n) (at_most m starts_item (read_stated n)) (at known words) ≡ round (read_stated n) (at_most m starts_item (read_stated n)) (at (knowing symbols) words)
 round-same n m known symbols words same = ap (λ (s : List Term). round (read_stated n) (at_most m starts_item (read_stated n)) (at (knowing s) words)) same
 

@@ -1,5 +1,5 @@
 -- What the reading of a text gives is what the text is: its items, or its fault.
-use Rattle.std.proofs.Common.{◌≡◌, ℕ, List, [], ◌∷◌, ◌++◌, Option, Some, None, refl, sym, ap, subst, ◌∙◌}
+use Rattle.std.proofs.Common.{◌≡◌, ℕ, List, [], ◌∷◌, ◌++◌, Option, None, refl, sym, ap, subst, ◌∙◌}
 use Rattle.std.proofs.lemmas.List.{append-nil}
 use Rattle.tel_base.specs.declared.places.Place.{Place}
 use Rattle.tel_lex.specs.declared.fault.LexFault.{LexFault}
@@ -10,7 +10,7 @@ use Rattle.formula_syntax.proofs.Steady.{near-got}
 use Rattle.formula_syntax.proofs.Outcomes.{Family, up, stands-longest, stuck-stops, whole-read, stuck-up, too_deep}
 use Rattle.part_syntax.specs.Grammar.{Stated, IsText}
 use Rattle.part_syntax.specs.Reading.{read_text}
-use Rattle.part_syntax.specs.Programs.{IsSyntaxAt, IsDeepAt, IsLexicalAt}
+use Rattle.part_syntax.specs.Programs.{IsSyntaxAt, IsDeepAt}
 use Rattle.part_syntax.proofs.TextReads.{more_text, text-reads, text-lifts}
 
 pub text-family : Family IsText read_text more_text
@@ -97,10 +97,6 @@ text-deep n known words word behind e =
       deeper = subst (λ (w : Word). Begins (AtSomeLevel IsText) known (d.front ++ w ∷ [])) same d.deeper;
       none = subst (λ (w : Word). Begins (IsText n) known (d.front ++ w ∷ []) → ⊥) same d.none;
     }
-
--- where a reading took all the words, or is stopped by their end, they begin a text
-pub text-lexical : (n : ℕ) (known : Known) (words : List Word) (first : LexFault) → Begins (IsText n) known words → IsLexicalAt n known words (Some first) first
-text-lexical n known words first b = record { fault_is = refl; begun = b }
 
 pub begun-whole : (n : ℕ) (known later : Known) (words : List Word) (stated : List Stated) → read_text n (at known words) ≡ Got stated (at later []) → Begins (IsText n) known words
 begun-whole n known later words stated e =

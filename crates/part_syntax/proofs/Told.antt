@@ -1,11 +1,11 @@
 -- The statements of a text that were read, and those that are read from there on.
-use Rattle.std.proofs.Common.{◌≡◌, ℕ, suc, Bool, true, false, List, ◌∷◌, ◌++◌, length, refl, sym, ap, ◌∙◌, append_assoc}
+use Rattle.std.proofs.Common.{◌≡◌, ℕ, suc, Bool, true, false, List, ◌∷◌, ◌++◌, refl, sym, ap, ◌∙◌, append_assoc}
 use Rattle.std.specs.Prelude.{◌≢◌}
 use Rattle.std.proofs.lemmas.List.{append-nil}
 use Rattle.tel_rule.specs.declared.parts.Part.{Part}
 use Rattle.tel_rule.specs.declared.statements.Statement.{Statement}
 use Rattle.formula_syntax.specs.Points.{Word, Point, begins}
-use Rattle.formula_syntax.specs.Steps.{Read, Got, Stuck, Reader, and_then, map_read, at_most, each}
+use Rattle.formula_syntax.specs.Steps.{Read, Got, Stuck, Reader, and_then, map_read, at_most}
 use Rattle.formula_syntax.specs.declared.reading.Stop.{Stop}
 use Rattle.formula_syntax.specs.declared.reading.Stop.TheVariants as stops
 use Rattle.formula_syntax.specs.Given.{why_of}
@@ -24,9 +24,6 @@ told_one done part stated (Stuck why rest) = refl
 module _ (test : Word → Bool) (step : Reader Stated) where
   abbrev pub turns : ℕ → Reader (List Stated)
   turns most = at_most most test step
-
-  pub told_start : (done : List Statement) (part : Part) (from : Point) (left : ℕ) → left ≡ length from.words → told done part (each test step from) ≡ told done part (turns left from)
-  told_start done part from left is = ap (λ (n : ℕ). told done part (turns n from)) (sym is)
 
   told_turn : (whole : Read (List Statement)) (done : List Statement) (part : Part) (from : Point) (left n : ℕ) → whole ≡ told done part (turns left from) → left ≡ suc n → begins test from.words ≡ true →
       whole ≡ told done part (and_then (step from) (λ (stated : Stated) (to : Point). map_read (λ (more : List Stated). stated ∷ more) (turns n to)))
@@ -51,7 +48,3 @@ module _ (test : Word → Bool) (step : Reader Stated) where
   pub told_end : (whole : Read (List Statement)) (done : List Statement) (part : Part) (from : Point) (left : ℕ) → whole ≡ told done part (turns left from) → begins test from.words ≡ false → whole ≡ Got done from
   told_end whole done part from left is ends =
       is ∙ ap (told done part) (at_most-end left test step from ends) ∙ ap (λ (xs : List Statement). Got xs from) (append-nil done)
-
-  pub told_last : (whole : Read (List Statement)) (done : List Statement) (part : Part) (from : Point) (left : ℕ) → whole ≡ told done part (turns left from) → left ≡ 0 → whole ≡ Got done from
-  told_last whole done part from left is none =
-      is ∙ ap (λ (n : ℕ). told done part (turns n from)) none ∙ ap (λ (xs : List Statement). Got xs from) (append-nil done)

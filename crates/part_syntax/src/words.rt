@@ -170,18 +170,6 @@ pub fn at_minus(reading: &Reading) -> bool
     matches!(reading.peek(), Some(Sense::Sign(Mark::Minus)))
 }
 
-/// Takes a `-`.
-pub fn minus(reading: &mut Reading) -> Result<(), Stop>
-    ensures reads { Reads (one formulas.minus reading.old) result reading.new }
-    ensures room { IsFrugal reading.old reading.new }
-{
-    if !at_minus(reading) {
-        return Err(Stop::Unexpected);
-    }
-    reading.skip();
-    Ok(())
-}
-
 /// Whether a `(` comes next.
 pub fn at_opening(reading: &Reading) -> bool
     ensures { result ≡ begins (passes formulas.opening) reading.now.words }
@@ -252,25 +240,6 @@ pub fn ampersand(reading: &mut Reading) -> Result<(), Stop>
     ensures room { IsFrugal reading.old reading.new }
 {
     if !at_ampersand(reading) {
-        return Err(Stop::Unexpected);
-    }
-    reading.skip();
-    Ok(())
-}
-
-/// Whether a `'` comes next.
-pub fn at_prime(reading: &Reading) -> bool
-    ensures { result ≡ begins (passes formulas.prime) reading.now.words }
-{
-    matches!(reading.peek(), Some(Sense::Sign(Mark::Prime)))
-}
-
-/// Takes a `'`.
-pub fn prime(reading: &mut Reading) -> Result<(), Stop>
-    ensures reads { Reads (one formulas.prime reading.old) result reading.new }
-    ensures room { IsFrugal reading.old reading.new }
-{
-    if !at_prime(reading) {
         return Err(Stop::Unexpected);
     }
     reading.skip();
