@@ -1,0 +1,5 @@
+pub mod Held
+pub mod Flat
+pub mod Closure
+pub mod Counts
+pub mod Laws
