@@ -1,2 +1,4 @@
-pub mod Symbols
+pub mod Arithmetic
 pub mod Laws
+pub mod Order
+pub mod Symbols

@@ -1,5 +1,6 @@
 //! Laws of the definitions: functions that do nothing, whose contracts are proved facts.
 
+ghost use Rattle.tel_term.specs.Order.{TermsAreOrdered, LevelTermsAreOne, ValuesAreOrdered, LevelValuesAreOne};
 ghost use Rattle.tel_term.specs.Laws.{TermEqDecides, ValuesAreDistinct, ValuesStandForTerms, TermsHaveOneValue, TableGrows, TableGrowsByOne, AskedIsKnown, KnownChangesNothing, ValueStays, StaysDistinct, StaysSymbols};
 
 /// The test of two terms tells whether they are one.
@@ -23,4 +24,12 @@ pub fn growing_tables()
     ensures stays { ValueStays }
     ensures distinct { StaysDistinct }
     ensures symbols { StaysSymbols }
+{}
+
+/// The order of terms is total, and so is that of values, and only what is one is level.
+pub fn order_of_terms()
+    ensures terms { TermsAreOrdered }
+    ensures level { LevelTermsAreOne }
+    ensures values { ValuesAreOrdered }
+    ensures level_values { LevelValuesAreOne }
 {}

@@ -1,10 +1,13 @@
 //! Names and strings under numbers.
 ghost use Rattle.std.specs.Prelude.{◌≡◌, ◌+◌, ◌-◌, ◌^◌, ◌<◌, ◌≤◌, [], length, Some, IsTrue, IfOk, OnOk, OnErr};
+ghost use Rattle.tel_term.specs.Order.{value_in_range, value_cmp};
 ghost use Rattle.tel_term.specs.Symbols.{IsTable, is_symbol_of, with_term, value_of, term_of};
 
+use crate::order::compare;
 use crate::terms::{Term, Value};
 use indexmap::IndexSet;
 use std::alloc::Global;
+use std::cmp::Ordering;
 use std::marker::Model;
 use tel_base::{HashKey, Memory};
 
@@ -79,6 +82,26 @@ impl Symbols {
         match value {
             Value::Sym(place) => &self.terms.as_slice()[place as usize],
             Value::Num(_) => unreachable!(),
+        }
+    }
+
+    /// How the term of a value stands to that of another: numbers before names before strings, numbers
+    /// by value, names and strings by their bytes, a prefix first.
+    #[tactic(auto, using(crate::proofs::Meant::meant))]
+    pub fn cmp(&self, a: Value, b: Value) -> Ordering
+        requires first { IsTrue (value_in_range self.now a) }
+        requires second { IsTrue (value_in_range self.now b) }
+        ensures { result ≡ value_cmp self.now a b }
+    {
+        match a {
+            Value::Num(m) => match b {
+                Value::Num(n) => m.cmp(&n),
+                Value::Sym(_) => compare(&Term::Num(m), self.term(b)),
+            },
+            Value::Sym(_) => match b {
+                Value::Num(n) => compare(self.term(a), &Term::Num(n)),
+                Value::Sym(_) => compare(self.term(a), self.term(b)),
+            },
         }
     }
 }
