@@ -1,9 +1,9 @@
-ghost use Rattle.std.specs.Prelude.{◌≡◌, ◌+◌, ◌-◌, ◌^◌, ◌<◌, ◌≤◌, length, IfOk, IfErr};
-ghost use Rattle.formula_syntax.specs.Steps.{Unexpected, Deep};
-ghost use Rattle.formula_syntax.specs.Reading as readers;
+ghost use Rattle.std.specs.Prelude.{◌≡◌, ℕ, ◌+◌, ◌-◌, ◌^◌, ◌<◌, ◌≤◌, length, IfOk, IfErr};
+ghost use Rattle.formula_syntax.specs.Steps.{Unexpected, Deep, Reader};
+ghost use Rattle.formula_syntax.specs.Reading.{read_expr, read_formula};
 ghost use Rattle.formula_syntax.specs.Grammar.{IsExpr, IsFormula};
 ghost use Rattle.formula_syntax.specs.Reached.{StandsUpTo, SyntaxAt, TooDeepAt};
-ghost use Rattle.formula_syntax.specs.Given.{ReadUpTo, StopsAt, IfSyntax, IfTooDeep, Grows, fault_of, most_levels};
+ghost use Rattle.formula_syntax.specs.Given.{Reads, Onward, ReadUpTo, StopsAt, IfSyntax, IfTooDeep, Grows, fault_of, most_levels};
 
 use crate::fault::FormulaFault;
 use crate::names::Names;
@@ -27,28 +27,55 @@ fn fault(stop: Stop, place: usize) -> FormulaFault
     }
 }
 
-/// The expression that begins at this token, where at most so many levels are open at once, and the
+/// What is read of tokens.
+trait Tree: Drop {
+    // Its reader, for each number of levels.
+    ghost reader: { ℕ → Reader Self };
+
+    /// The tree that a reading goes on with, where at most so many levels are open at once.
+    fn go_on(reading: &mut Reading, levels: u32) -> Result<Self, Stop>
+        ensures reads { Reads (reader levels reading.old) result reading.new }
+        ensures onward { Onward reading.old reading.new };
+}
+
+impl Tree for Expr {
+    ghost reader = { read_expr };
+
+    fn go_on(reading: &mut Reading, levels: u32) -> Result<Expr, Stop> {
+        reading.expr(levels)
+    }
+}
+
+impl Tree for Formula {
+    ghost reader = { read_formula };
+
+    fn go_on(reading: &mut Reading, levels: u32) -> Result<Formula, Stop> {
+        reading.formula(levels)
+    }
+}
+
+/// The tree that is read from this token on, where at most so many levels are open at once, and the
 /// index of the token behind it.
-fn expr_within(
+fn read<T: Tree>(
     alloc: Global,
     tokens: &[Token<'_>],
     place: usize,
     levels: u32,
     names: &mut Names,
-) -> Result<(Expr, usize), FormulaFault>
+) -> Result<(T, usize), FormulaFault>
     requires within { place ≤ length tokens.now }
     requires symbols { length names.old.symbols + (length tokens.now - place) < 2 ^ 32 - 1 }
     requires vars { length names.old.vars + (length tokens.now - place) < 2 ^ 32 - 1 }
-    ensures ok { IfOk result (λ read. ReadUpTo (readers.read_expr levels) names.old names.new tokens.now place read.0 read.1) }
-    ensures syntax { IfErr result (λ fault. IfSyntax fault (λ end. StopsAt (readers.read_expr levels) Unexpected names.old tokens.now place end)) }
-    ensures too_deep { IfErr result (λ fault. IfTooDeep fault (λ end. StopsAt (readers.read_expr levels) Deep names.old tokens.now place end)) }
+    ensures ok { IfOk result (λ read. ReadUpTo (T.reader levels) names.old names.new tokens.now place read.0 read.1) }
+    ensures syntax { IfErr result (λ fault. IfSyntax fault (λ end. StopsAt (T.reader levels) Unexpected names.old tokens.now place end)) }
+    ensures too_deep { IfErr result (λ fault. IfTooDeep fault (λ end. StopsAt (T.reader levels) Deep names.old tokens.now place end)) }
     ensures grows { Grows names.old names.new }
 {
     let mut reading = Reading::new(alloc, tokens, place, names);
-    let outcome = reading.expr(levels);
+    let outcome = T::go_on(&mut reading, levels);
     let end = reading.finish(names, tokens.len());
     match outcome {
-        Ok(expr) => Ok((expr, end)),
+        Ok(tree) => Ok((tree, end)),
         Err(stop) => Err(fault(stop, end)),
     }
 }
@@ -76,33 +103,7 @@ pub fn expr(
     ensures too_deep { IfErr result (λ fault. IfTooDeep fault (λ end. TooDeepAt IsExpr most_levels names.old tokens.now place end)) }
     ensures grows { Grows names.old names.new }
 {
-    expr_within(alloc, tokens, place, LEVELS, names)
-}
-
-/// The formula that begins at this token, where at most so many levels are open at once, and the
-/// index of the token behind it.
-fn formula_within(
-    alloc: Global,
-    tokens: &[Token<'_>],
-    place: usize,
-    levels: u32,
-    names: &mut Names,
-) -> Result<(Formula, usize), FormulaFault>
-    requires within { place ≤ length tokens.now }
-    requires symbols { length names.old.symbols + (length tokens.now - place) < 2 ^ 32 - 1 }
-    requires vars { length names.old.vars + (length tokens.now - place) < 2 ^ 32 - 1 }
-    ensures ok { IfOk result (λ read. ReadUpTo (readers.read_formula levels) names.old names.new tokens.now place read.0 read.1) }
-    ensures syntax { IfErr result (λ fault. IfSyntax fault (λ end. StopsAt (readers.read_formula levels) Unexpected names.old tokens.now place end)) }
-    ensures too_deep { IfErr result (λ fault. IfTooDeep fault (λ end. StopsAt (readers.read_formula levels) Deep names.old tokens.now place end)) }
-    ensures grows { Grows names.old names.new }
-{
-    let mut reading = Reading::new(alloc, tokens, place, names);
-    let outcome = reading.formula(levels);
-    let end = reading.finish(names, tokens.len());
-    match outcome {
-        Ok(formula) => Ok((formula, end)),
-        Err(stop) => Err(fault(stop, end)),
-    }
+    read(alloc, tokens, place, LEVELS, names)
 }
 
 /// Reads the longest formula that begins at the token at `place`, and gives the index of the token
@@ -130,5 +131,5 @@ pub fn formula(
     ensures too_deep { IfErr result (λ fault. IfTooDeep fault (λ end. TooDeepAt IsFormula most_levels names.old tokens.now place end)) }
     ensures grows { Grows names.old names.new }
 {
-    formula_within(alloc, tokens, place, LEVELS, names)
+    read(alloc, tokens, place, LEVELS, names)
 }
