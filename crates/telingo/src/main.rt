@@ -1,27 +1,11 @@
 //! `telingo`: the temporal equilibrium models of a logic program over time, printed.
 #![tactic(auto)]
 
-mod answering;
-mod files;
-mod grounding;
-mod laws;
-mod naming;
-mod plain;
-mod printing;
-mod reading;
-mod refusing;
-mod running;
-mod status;
-#[cfg(test)]
-mod tests;
-mod top;
-
-use status::Status;
 use std::alloc::Global;
 use std::process::ExitCode;
 use std::{env, io};
 use tel_base::{FileSource, NullSink, OutSink};
-use top::telingo;
+use telingo_cli::{Status, telingo};
 
 /// The words after the program's name.
 fn words(rt: &HostRuntime) -> io::Result<Vec<String>> {
