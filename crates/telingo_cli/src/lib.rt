@@ -12,8 +12,6 @@ mod reading;
 mod refusing;
 mod running;
 mod status;
-#[cfg(test)]
-mod tests;
 mod top;
 
 pub use laws::statements;

@@ -1,0 +1,8 @@
+use Rattle.std.proofs.Common.{length, ◌-◌, ◌≤◌}
+use Rattle.telingo_rows.proofs.values.add_values.Given as goal
+
+abbrev pub invariant-values : goal.invariant-values
+invariant-values l = l.at ≤ length l.line
+
+abbrev pub decreases-values : goal.decreases-values
+decreases-values l = length l.line - l.at
