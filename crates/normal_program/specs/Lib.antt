@@ -1,0 +1,4 @@
+pub mod Rules
+pub mod Shapes
+pub mod Numbering
+pub mod Grounds
