@@ -110,13 +110,13 @@ nodes_below count total first (node ∷ more) right =
     let formulas = map (kid_value Atom False (first + 1) later) node.kids in
     and_from (atoms_below count (op_formula node.op formulas)) (list_all (atoms_below count) later) (op_below count node.op formulas (kids_below count total first (first + 1) later node.kids rest list)) rest
 
-node_below : (count total : ℕ) (nodes : List Node) (x : ℕ) → are_nodes count total 0 nodes ≡ true → atoms_below count (node_formula nodes x) ≡ true
+pub node_below : (count total : ℕ) (nodes : List Node) (x : ℕ) → are_nodes count total 0 nodes ≡ true → atoms_below count (node_formula nodes x) ≡ true
 unfolding node_formula
 node_below count total nodes x right = looked_up_below count (node_formulas nodes) x (nodes_below count total 0 nodes right)
 
 -- ---- the formulas of the instances
 
-item_below : (count total : ℕ) (nodes : List Node) (item : BodyItem) → are_nodes count total 0 nodes ≡ true → item_in_range count total item ≡ true → atoms_below count (item_formula nodes item) ≡ true
+pub item_below : (count total : ℕ) (nodes : List Node) (item : BodyItem) → are_nodes count total 0 nodes ≡ true → item_in_range count total item ≡ true → atoms_below count (item_formula nodes item) ≡ true
 item_below count total nodes (items.Atom atom) right h = h
 item_below count total nodes (items.Before atom) right h = h
 item_below count total nodes (items.Node node) right h = node_below count total nodes node right
@@ -131,7 +131,7 @@ literal_below count total nodes literal right h =
     let below = item_below count total nodes literal.item right h in
     choice_below count literal.positive f (negation f) below (negation_below count f below)
 
-body_below : (count total : ℕ) (nodes : List Node) (body : List BodyLit) → are_nodes count total 0 nodes ≡ true → list_all (literal_in_range count total) body ≡ true → atoms_below count (body_formula nodes body) ≡ true
+pub body_below : (count total : ℕ) (nodes : List Node) (body : List BodyLit) → are_nodes count total 0 nodes ≡ true → list_all (literal_in_range count total) body ≡ true → atoms_below count (body_formula nodes body) ≡ true
 body_below count total nodes [] right h = refl
 body_below count total nodes (literal ∷ more) right h =
     let both = and_parts (literal_in_range count total literal) (list_all (literal_in_range count total) more) h in
@@ -171,7 +171,7 @@ range_below (suc n) low x found =
     ⊎_elim (λ same. omega (arith, same)) (λ later. omega (arith, range_below n (low + 1) x later)) found
 
 -- the numbers of a pair are those of atoms
-pair_below : (atoms : List GroundAtom) (pair : ℕ × ℕ) → In pair (pairs_of atoms) → (pair.0 < length atoms) × (pair.1 < length atoms)
+pub pair_below : (atoms : List GroundAtom) (pair : ℕ × ℕ) → In pair (pairs_of atoms) → (pair.0 < length atoms) × (pair.1 < length atoms)
 pair_below atoms pair found =
     let numbers = range_with_len 0 (length atoms) in
     let plain = In-flat_map_from (pairs_with atoms) pair numbers found in
