@@ -1,0 +1,10 @@
+use Rattle.std.proofs.Common.{◌≡◌, ◌++◌, drop}
+use Rattle.step_module.specs.Rules.{instance_bodies, instance_rules, numbered}
+use Rattle.step_module.proofs.instances.add_instances.Given as goal
+
+abbrev pub invariant-loop-instance : goal.invariant-loop-instance
+invariant-loop-instance l = record {
+  place : l.number ≡ l.instance-index;
+  bodies : l.bodies ++ numbered (instance_bodies l.space.counts l.t) l.number (drop l.instance-index l.instances) ≡ l.initial.bodies ++ numbered (instance_bodies l.space.counts l.t) 0 l.instances;
+  rules : l.rules ++ numbered (instance_rules l.space.counts l.t) l.number (drop l.instance-index l.instances) ≡ l.initial.rules ++ numbered (instance_rules l.space.counts l.t) 0 l.instances;
+}
