@@ -1,1 +1,2 @@
 pub mod NodeReads
+pub mod Examples

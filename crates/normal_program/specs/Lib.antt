@@ -2,3 +2,4 @@ pub mod Rules
 pub mod Shapes
 pub mod Numbering
 pub mod Grounds
+pub mod StableSets
