@@ -1,0 +1,15 @@
+use Rattle.std.proofs.Common.{◌∙◌, List, ◌∷◌, sym, ap, subst, reverse}
+use Rattle.std.specs.Prelude.{Option, None, vec_capacity}
+use Rattle.tel_base.specs.declared.literals.Lit.{Lit}
+use Rattle.lit_trail.specs.Entries.{View}
+use Rattle.lit_trail.specs.Levels.{IsTrail}
+use Rattle.lit_trail.proofs.LevelSteps.{open_trail, reverse_push, no_decisions}
+use Rattle.lit_trail.proofs.trail.Trail.open_level.Goals as goal
+
+pub invariant_of-self : goal.invariant_of-self
+invariant_of-self c =
+    let decisions = c.self.inside.decisions in
+    let none = no_decisions decisions.items (ap (λ (v : View). v.level) c.self.view_is ∙ c.requires.level) in
+    let pushed = ap reverse c.in-Ok.ensures.items ∙ reverse_push decisions.items None ∙ ap (λ (ds : List (Option Lit)). None ∷ ds) none in
+    let trail = subst (λ (ds : List (Option Lit)). IsTrail c.self.inside.assignment ds (vec_capacity decisions)) none c.self.invariant in
+    subst (λ (ds : List (Option Lit)). IsTrail c.self.inside.assignment ds (vec_capacity c.push.new.self)) (sym pushed) (open_trail c.self.inside.assignment (vec_capacity decisions) (vec_capacity c.push.new.self) trail c.push.ensures.capacity)
