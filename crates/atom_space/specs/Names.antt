@@ -2,14 +2,14 @@
 use Rattle.std.specs.Prelude.{ℕ, Bool, ◌&&◌, Option, Some, None, nat_lt, nat_le, if◌then◌else◌}
 use Rattle.atom_space.specs.declared.space.VarName.{VarName}
 use Rattle.atom_space.specs.declared.space.VarName.TheVariants as names
-use Rattle.atom_space.specs.Numbers.{Counts, Space, visible, part, body, end}
+use Rattle.atom_space.specs.Numbers.{Counts, Space, visible, part, body_at, end_at}
 
 -- the number of a name
 abbrev pub number_of : Counts → VarName → ℕ
 number_of counts (names.Visible atom t) = visible counts atom t
 number_of counts (names.Part node t) = part counts node t
-number_of counts (names.Body instance t) = body counts instance t
-number_of counts (names.End t) = end counts t
+number_of counts (names.Body instance t) = body_at counts instance t
+number_of counts (names.End t) = end_at counts t
 
 -- whether there is what it names, and the state isn't above the greatest
 abbrev pub is_named : Space → VarName → Bool

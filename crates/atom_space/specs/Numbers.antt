@@ -30,8 +30,8 @@ visible counts atom t = t * width counts + atom
 abbrev pub part : Counts → ℕ → ℕ → ℕ
 part counts node t = t * width counts + (counts.atoms + node)
 
-abbrev pub body : Counts → ℕ → ℕ → ℕ
-body counts instance t = t * width counts + (counts.atoms + counts.nodes + instance)
+abbrev pub body_at : Counts → ℕ → ℕ → ℕ
+body_at counts instance t = t * width counts + (counts.atoms + counts.nodes + instance)
 
-abbrev pub end : Counts → ℕ → ℕ
-end counts t = t * width counts + (counts.atoms + counts.nodes + counts.bodies)
+abbrev pub end_at : Counts → ℕ → ℕ
+end_at counts t = t * width counts + (counts.atoms + counts.nodes + counts.bodies)

@@ -1,6 +1,6 @@
 ghost use Rattle.std.specs.Prelude.{◌≡◌, ◌↔◌, ◌<◌, ◌≤◌, ◌+◌, ◌*◌, ◌^◌, Some, None};
 ghost use Rattle.atom_space.specs.declared.space.VarName.{VarName};
-ghost use Rattle.atom_space.specs.Numbers.{width, visible, part, body, end};
+ghost use Rattle.atom_space.specs.Numbers.{width, visible, part, body_at, end_at};
 ghost use Rattle.atom_space.specs.Names.{var_of};
 ghost use Rattle.atom_space.specs.Naming.{name_at};
 
@@ -83,7 +83,7 @@ impl AtomSpace {
     pub fn body(&self, instance: u32, t: u32) -> u32
         requires instance { instance < self.now.counts.bodies }
         requires state { t ≤ self.now.greatest }
-        ensures { result ≡ body self.now.counts instance t }
+        ensures { result ≡ body_at self.now.counts instance t }
     {
         self.at(self.atoms + self.nodes + instance, t)
     }
@@ -91,7 +91,7 @@ impl AtomSpace {
     /// The variable of the end at a state.
     pub fn end(&self, t: u32) -> u32
         requires state { t ≤ self.now.greatest }
-        ensures { result ≡ end self.now.counts t }
+        ensures { result ≡ end_at self.now.counts t }
     {
         self.at(self.atoms + self.nodes + self.bodies, t)
     }
