@@ -1,8 +1,8 @@
 -- The stable sets of normal programs with choices and constraints (Gelfond and Lifschitz; Simons, Niemelä and Soininen for choices). Sets are
 -- tests of variables. A set X is judged against a set S: in the reduct by S a negative literal is false where its variable is in S, and a choice
 -- rule counts exactly where its head is in S.
-use Rattle.std.specs.Prelude.{ℕ, Bool, true, not, ◌&&◌, ◌||◌, List, Option, Some, None, IsTrue, if◌then◌else◌}
-use Rattle.std.specs.List.{list_all, list_any}
+use Rattle.std.specs.Prelude.{◌≡◌, ℕ, Bool, true, not, ◌&&◌, ◌||◌, List, Option, Some, None, IsTrue, if◌then◌else◌}
+use Rattle.std.specs.List.{list_all, list_any, Contains}
 use Rattle.tel_base.specs.declared.literals.Lit.{Lit}
 use Rattle.normal_program.specs.declared.rules.NRule.{NRule}
 use Rattle.normal_program.specs.declared.shapes.Shape.{Shape}
@@ -36,6 +36,11 @@ is_closed rules S X = list_all (keeps S X) rules
 abbrev pub is_met : Set → Bool → Option ℕ → Bool
 is_met S body None = not body
 is_met S body (Some head) = true
+
+-- S is closed under the reduct by itself, and each variable of it is the head of a rule whose body holds
+pub record IsSupported (rules : List NRule) (S : Set) : Type 0 where
+  pub closed : IsTrue (is_closed rules S S)
+  pub supported : (v : ℕ) → IsTrue (S v) → (rule : NRule) × Contains rules rule × (rule.head ≡ Some v) × IsTrue (body_holds S S rule)
 
 -- S is the least set that is closed under the reduct by S; it meets the constraints and has no pair whole
 pub record IsStable (rules : List NRule) (pairs : List (ℕ × ℕ)) (S : Set) : Type 0 where

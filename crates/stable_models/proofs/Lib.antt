@@ -1,0 +1,15 @@
+pub mod ProgramRules
+pub mod Steps
+pub mod Numbering
+pub mod Induction
+pub mod NodeSteps
+pub mod Parts
+pub mod Sets
+pub mod RuleCases
+pub mod Bodies
+pub mod ModelSets
+pub mod Guarded
+pub mod Stables
+pub mod Found
+pub mod ModuleRules
+pub mod LawProofs
