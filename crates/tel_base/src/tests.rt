@@ -173,14 +173,15 @@ impl io::Write for Full {
 }
 
 #[test]
-fn files_and_streams(rt: HostRuntime) -> Result<(), Fail> {
+fn files_of_the_system(rt: HostRuntime) -> Result<(), Fail> {
     let alloc = rt.alloc();
     let _ = fs::remove_dir_all(&rt, "tel_base_test");
     fs::create_dir(&rt, "tel_base_test")?;
-    let mut sink = OutSink::new(fs::create(&rt, "tel_base_test/words")?);
-    write_whole(&mut sink, b"one ")?;
-    write_whole(&mut sink, b"two")?;
-    drop(sink);
+    {
+        let mut sink = OutSink::new(fs::create(&rt, "tel_base_test/words")?);
+        write_whole(&mut sink, b"one ")?;
+        write_whole(&mut sink, b"two")?;
+    }
     fs::write(&rt, "tel_base_test/empty", b"".as_slice())?;
     let system = Fed {
         system: rt,
@@ -215,26 +216,24 @@ fn files_and_streams(rt: HostRuntime) -> Result<(), Fail> {
         );
     }
     fs::remove_dir_all(&rt, "tel_base_test")?;
+    Ok(())
+}
+
+#[test]
+fn writers(rt: HostRuntime) {
     let mut space = [0; 3];
     let mut full = OutSink::new(space.as_mut_slice());
     assert_eq!(rt; full.write(b"abcd"), Ok(3));
     assert_eq!(rt; full.write(b""), Ok(0));
     assert_eq!(rt; full.write(b"d"), Err(Failed));
     assert_eq!(rt; OutSink::new(Full).write(b"d"), Err(Failed));
-    Ok(())
 }
 
 #[test]
 fn keys(rt: HostRuntime) -> Result<(), Fail> {
     let alloc = rt.alloc();
-    let texts = [
-        Text::from_slice(alloc, b"ab")?,
-        Text::from_slice(alloc, b"c")?,
-    ];
-    let others = [
-        Text::from_slice(alloc, b"a")?,
-        Text::from_slice(alloc, b"bc")?,
-    ];
+    let texts = [Text::from_slice(alloc, b"a")?];
+    let others = [Text::from_slice(alloc, b"b")?];
     let hash = HashKey::of(&texts).hash_one(7u64);
     assert_eq!(rt; HashKey::of(&texts).hash_one(7u64), hash);
     assert_ne!(rt; HashKey::of(&others).hash_one(7u64), hash);
