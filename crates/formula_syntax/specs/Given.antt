@@ -1,4 +1,4 @@
--- What the code's values stand for, and what a private function that reads ensures.
+-- What the code's values stand for, and what a method of `Reading` ensures.
 use Rattle.std.specs.Prelude.{◌≡◌, ◌≢◌, ℕ, ◌+◌, ◌^◌, ◌<◌, ◌≤◌, Bool, true, false, List, [], ◌∷◌, ◌++◌, length, Option, Some, None, Result, Ok, Err, ◌-◌, ◌||◌, is_some, drop}
 use Rattle.std.specs.Option.{option_map}
 use Rattle.std.specs.Borrow.{Bor}

@@ -1,5 +1,5 @@
--- Reading expressions, atoms and formulas, by the level. Only private functions are held to it; the public contracts
--- speak of the grammar.
+-- Reading expressions, atoms and formulas, by the level. The methods of `Reading` give what these functions give, and a layer
+-- above goes on from there; the contracts of `expr` and `formula` speak of the grammar.
 use Rattle.std.specs.Prelude.{ℕ, zero, suc, Bool, List}
 use Rattle.tel_term.specs.declared.exprs.Expr.{Expr}
 use Rattle.tel_rule.specs.declared.formulas.Atom.{Atom}

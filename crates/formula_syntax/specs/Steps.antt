@@ -1,5 +1,5 @@
--- Reading, by functions of the point that is reached. Only private functions are held to them; the public contracts
--- speak of the grammar.
+-- Reading, by functions of the point that is reached. The methods of `Reading` are held to them, and so is what a layer above
+-- puts together of these methods; the contracts of `expr` and `formula` speak of the grammar.
 use Rattle.std.specs.Prelude.{ℕ, zero, suc, Bool, ◌||◌, List, [], ◌∷◌, Option, Some, None, if◌then◌else◌, length, is_some}
 use Rattle.formula_syntax.specs.Points.{Word, Known, Point, at, begins}
 

@@ -1,4 +1,4 @@
--- What a private function that reads statements ensures.
+-- What a private function that reads statements ensures, over the methods of `Reading`.
 use Rattle.std.specs.Prelude.{◌≡◌, ◌≢◌, ℕ, ◌+◌, ◌≤◌, List, length, Option, Result, Ok, Err}
 use Rattle.tel_rule.specs.declared.statements.Literal.{Literal}
 use Rattle.formula_syntax.specs.declared.reading.Stop.{Stop}
