@@ -119,9 +119,6 @@ not-product word a = rw a refl
 pub not-sum : (word : Word) → (passes product_op word ≡ false) × (passes sum_op word ≡ false) → more_sum word ≡ false
 not-sum word both_fail = rw (both_fail.0, both_fail.1) refl
 
-apart-minus : Apart (passes minus) (passes leaf)
-apart-minus word is = minus-leaf_of (sense word) is
-
 apart-opening : Apart (passes opening) (passes minus)
 apart-opening word is = opening-minus_of (sense word) is
 
@@ -202,10 +199,6 @@ pub record SomeOf {A : Type 0} (o : Option A) : Type 0 where
 some-of : {A : Type 0} (o : Option A) → is_some o ≡ true → SomeOf o
 some-of None is = absurd (false≢true is)
 some-of (Some a) is = record { value = a; is = refl }
-
--- a word that doesn't pass stops the reading of one
-pub one-none : {A : Type 0} (value : Word → Option (Known → A × Known)) (known : Known) (word : Word) (words : List Word) → passes value word ≡ false → one value (at known (word ∷ words)) ≡ Stuck Unexpected (word ∷ words)
-one-none value known word words is = rw (none-of (value word) is) refl
 
 -- an operator alone, before what can't be read of no words
 op-alone : {A B : Type 0} (op : Word → Option (Known → A × Known)) (read : Reader B) (known : Known) (word : Word) → passes op word ≡ true → ((later : Known) → read (at later []) ≡ Stuck Unexpected []) → both (one op) read (at known (word ∷ [])) ≡ Stuck Unexpected []

@@ -1,21 +1,12 @@
 -- A text has at most as many tokens as bytes.
-use Rattle.std.proofs.Common.{◌≡◌, ℕ, ◌+◌, ◌≤◌, false, List, [], ◌∷◌, length, Option, IsTrue, refl, ap, arith, length-append}
+use Rattle.std.proofs.Common.{ℕ, ◌+◌, ◌≤◌, List, [], ◌∷◌, length, Option, IsTrue, ap, arith, length-append}
 use Rattle.std.specs.Prelude.{Result, Ok, Err, IfOk}
 use Rattle.tel_base.specs.declared.places.Place.{Place}
 use Rattle.tel_lex.specs.declared.fault.LexFault.{LexFault}
 use Rattle.tel_lex.specs.declared.token.TokenKind.{TokenKind}
-use Rattle.tel_lex.specs.declared.token.TokenKind.TheVariants as kinds
 use Rattle.tel_lex.specs.Spelling.{is_spelling}
+use Rattle.tel_lex.proofs.SpelledKinds.{no_empty}
 use Rattle.tel_lex.specs.Tokens.{Lexeme, Lexes, ended, separated, token, large, bad, IsLexed}
-
-no_empty : (kind : TokenKind) → is_spelling kind [] ≡ false
-no_empty kinds.Name = refl
-no_empty kinds.Variable = refl
-no_empty kinds.Blank = refl
-no_empty kinds.Number = refl
-no_empty kinds.Str = refl
-no_empty kinds.Hash = refl
-no_empty kinds.Sign = refl
 
 spelled_some : (kind : TokenKind) (text : List ℕ) → IsTrue (is_spelling kind text) → 1 ≤ length text
 spelled_some kind [] spelled = absurd (cc (no_empty kind, spelled))

@@ -15,7 +15,7 @@ use Rattle.formula_syntax.specs.Grammar.{plain, by_itself, leaf, leaf_of, minus,
 use Rattle.formula_syntax.specs.Reading.{read_formula, starts_atom}
 use Rattle.formula_syntax.proofs.Readers.{nothing}
 use Rattle.formula_syntax.proofs.Nonterminals.{Lifts, Apart, Passing, one-lifts, made-lifts, then-lifts, either-lifts, maybe-lifts, operand-lifts}
-use Rattle.formula_syntax.proofs.Families.{passing-ampersand, more_sum, not-sum}
+use Rattle.formula_syntax.proofs.Families.{sign_word, name_word, passing-ampersand, more_sum, not-sum}
 use Rattle.formula_syntax.proofs.FormulaFamilies.{more_atom, more_formula, starts_unary, formula-known, formula-lifts, GoesOnBy, formula-ends, either-of}
 use Rattle.part_syntax.specs.Grammar.{not_word, is_not, if_sign, is_if, stop, is_stop, dots, is_dots, semicolon, is_semicolon, separator, is_separator, open_brace, close_brace, is_close_brace, equal, slash, program_word, const_word, show_word, tel_word, part, arity, relation, relation_of, literal, tel_of, negated_of, chain_of, body_of, IsTel, IsAtomItem, IsLiteral, IsBody, IsTail}
 use Rattle.part_syntax.specs.Reading.{goes_on, read_tel, read_plain, read_atom_item, read_item_of, read_negated, read_literal, read_body, read_tail, starts_plain, starts_literal}
@@ -24,50 +24,53 @@ use Rattle.part_syntax.proofs.AtomOrComparison.{IsPlain, more_plain, plain-read,
 
 -- ---- words
 
+abbrev hash_word : List ℕ → Word
+hash_word text = record { kind = token_kinds.Hash; text = text; place = record { file = 1; line = 1; at = 1 } }
+
 passing-not_word : Passing not_word
-passing-not_word = record { word = record { kind = token_kinds.Name; text = codes "not"; place = record { file = 1; line = 1; at = 1 } }; make = λ known. (tt, known); gives = refl }
+passing-not_word = record { word = name_word (codes "not"); make = λ known. (tt, known); gives = refl }
 
 pub passing-if_sign : Passing if_sign
-passing-if_sign = record { word = record { kind = token_kinds.Sign; text = codes ":-"; place = record { file = 1; line = 1; at = 1 } }; make = λ known. (tt, known); gives = refl }
+passing-if_sign = record { word = sign_word (codes ":-"); make = λ known. (tt, known); gives = refl }
 
 pub passing-stop : Passing stop
-passing-stop = record { word = record { kind = token_kinds.Sign; text = codes "."; place = record { file = 1; line = 1; at = 1 } }; make = λ known. (tt, known); gives = refl }
+passing-stop = record { word = sign_word (codes "."); make = λ known. (tt, known); gives = refl }
 
 pub passing-dots : Passing dots
-passing-dots = record { word = record { kind = token_kinds.Sign; text = codes ".."; place = record { file = 1; line = 1; at = 1 } }; make = λ known. (tt, known); gives = refl }
+passing-dots = record { word = sign_word (codes ".."); make = λ known. (tt, known); gives = refl }
 
 pub passing-semicolon : Passing semicolon
-passing-semicolon = record { word = record { kind = token_kinds.Sign; text = codes ";"; place = record { file = 1; line = 1; at = 1 } }; make = λ known. (tt, known); gives = refl }
+passing-semicolon = record { word = sign_word (codes ";"); make = λ known. (tt, known); gives = refl }
 
 passing-separator : Passing separator
-passing-separator = record { word = record { kind = token_kinds.Sign; text = codes ","; place = record { file = 1; line = 1; at = 1 } }; make = λ known. (tt, known); gives = refl }
+passing-separator = record { word = sign_word (codes ","); make = λ known. (tt, known); gives = refl }
 
 pub passing-open_brace : Passing open_brace
-passing-open_brace = record { word = record { kind = token_kinds.Sign; text = codes "{"; place = record { file = 1; line = 1; at = 1 } }; make = λ known. (tt, known); gives = refl }
+passing-open_brace = record { word = sign_word (codes "{"); make = λ known. (tt, known); gives = refl }
 
 pub passing-close_brace : Passing close_brace
-passing-close_brace = record { word = record { kind = token_kinds.Sign; text = codes "}"; place = record { file = 1; line = 1; at = 1 } }; make = λ known. (tt, known); gives = refl }
+passing-close_brace = record { word = sign_word (codes "}"); make = λ known. (tt, known); gives = refl }
 
 pub passing-equal : Passing equal
-passing-equal = record { word = record { kind = token_kinds.Sign; text = codes "="; place = record { file = 1; line = 1; at = 1 } }; make = λ known. (tt, known); gives = refl }
+passing-equal = record { word = sign_word (codes "="); make = λ known. (tt, known); gives = refl }
 
 pub passing-slash : Passing slash
-passing-slash = record { word = record { kind = token_kinds.Sign; text = codes "/"; place = record { file = 1; line = 1; at = 1 } }; make = λ known. (tt, known); gives = refl }
+passing-slash = record { word = sign_word (codes "/"); make = λ known. (tt, known); gives = refl }
 
 pub passing-program_word : Passing program_word
-passing-program_word = record { word = record { kind = token_kinds.Hash; text = codes "#program"; place = record { file = 1; line = 1; at = 1 } }; make = λ known. (tt, known); gives = refl }
+passing-program_word = record { word = hash_word (codes "#program"); make = λ known. (tt, known); gives = refl }
 
 pub passing-const_word : Passing const_word
-passing-const_word = record { word = record { kind = token_kinds.Hash; text = codes "#const"; place = record { file = 1; line = 1; at = 1 } }; make = λ known. (tt, known); gives = refl }
+passing-const_word = record { word = hash_word (codes "#const"); make = λ known. (tt, known); gives = refl }
 
 pub passing-show_word : Passing show_word
-passing-show_word = record { word = record { kind = token_kinds.Hash; text = codes "#show"; place = record { file = 1; line = 1; at = 1 } }; make = λ known. (tt, known); gives = refl }
+passing-show_word = record { word = hash_word (codes "#show"); make = λ known. (tt, known); gives = refl }
 
 passing-tel_word : Passing tel_word
-passing-tel_word = record { word = record { kind = token_kinds.Name; text = codes "tel"; place = record { file = 1; line = 1; at = 1 } }; make = λ known. (tt, known); gives = refl }
+passing-tel_word = record { word = name_word (codes "tel"); make = λ known. (tt, known); gives = refl }
 
 pub passing-part : Passing part
-passing-part = record { word = record { kind = token_kinds.Name; text = codes "always"; place = record { file = 1; line = 1; at = 1 } }; make = λ known. (parts.Always, known); gives = refl }
+passing-part = record { word = name_word (codes "always"); make = λ known. (parts.Always, known); gives = refl }
 
 pub passing-arity : Passing arity
 unfolding number_of
