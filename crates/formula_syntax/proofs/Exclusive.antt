@@ -126,7 +126,7 @@ module _ {A : Type 0} (F : ℕ → Grammar A) (only : (levels : ℕ) (from : Poi
       let x : a.0 ≡ b.0 = cc in
       let y : point_at new tokens a.1 ≡ point_at last tokens b.1 = cc in
       let z : a.1 ≡ b.1 = same-place tokens a.1 b.1 s.within t.within (ap (λ (p : Point). p.words) y) in
-      ap (λ (thing : A). Ok (thing, a.1)) x ∙ ap (λ (end : ℕ). Ok (b.0, end)) z
+      ◌∙◌ {b = Ok (b.0, a.1)} (ap (λ (thing : A). Ok (thing, a.1)) x) (ap (λ (end : ℕ). Ok (b.0, end)) z)
   one_answer levels old new last tokens place (Ok a) (Err (faults.Syntax end)) s t =
       let e = only levels (point_at old tokens place) (Got a.0 (point_at new tokens a.1)) (Stuck Unexpected (words_of (drop end tokens))) s.stands t.stops in
       absurd cc

@@ -7,6 +7,7 @@ pub mod Families
 pub mod FormulaFamilies
 pub mod Fronts
 pub mod Gathers
+pub mod Indexed
 pub mod Levels
 pub mod Manies
 pub mod Nonterminals

@@ -7,7 +7,7 @@ use Rattle.std.proofs.Common.{inl, inr}
 use Rattle.tel_term.specs.declared.terms.Term.{Term}
 use Rattle.tel_term.specs.Symbols.{with_term, is_known}
 use Rattle.formula_syntax.specs.Points.{Word, Point}
-use Rattle.formula_syntax.specs.Grammar.{place_in, with_var}
+use Rattle.formula_syntax.specs.Grammar.{with_var}
 use Rattle.formula_syntax.specs.Given.{Onward, behind_first}
 
 -- a name or a string more, or none
@@ -37,22 +37,6 @@ onward_term old new term some words symbols vars =
       symbols_room = omega (arith, m.few, ap length symbols, b.2, ap length words);
       vars_room = omega (arith, ap length vars, b.2, ap length words);
     }
-
-pub new_place : (name : List ℕ) (vars : List (List ℕ)) → place_in name vars ≡ length vars → with_var name vars ≡ vars ++ name ∷ []
-new_place name [] is = refl
-new_place name (first ∷ more) is =
-    elim (cases_Bool (bytes_eq name first)) [
-      | inl e ↦ absurd (omega (arith, rw e at is))
-      | inr e ↦ let n : place_in name more ≡ length more = omega (arith, rw e at is) in rw e (ap (λ (vs : List (List ℕ)). first ∷ vs) (new_place name more n))
-    ]
-
-pub known_place : (name : List ℕ) (vars : List (List ℕ)) → place_in name vars < length vars → with_var name vars ≡ vars
-known_place name [] is = absurd (omega arith)
-known_place name (first ∷ more) is =
-    elim (cases_Bool (bytes_eq name first)) [
-      | inl e ↦ rw e refl
-      | inr e ↦ let n : place_in name more < length more = omega (arith, rw e at is) in rw e (ap (λ (vs : List (List ℕ)). first ∷ vs) (known_place name more n))
-    ]
 
 -- a variable more, or none
 record MoreVars (old new : List (List ℕ)) : Type 0 where

@@ -7,3 +7,4 @@ pub mod Refusals
 pub mod Senses
 pub mod Shapes
 pub mod Steps
+pub mod Variables

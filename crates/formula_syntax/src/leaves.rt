@@ -1,4 +1,4 @@
-ghost use Rattle.std.specs.Prelude.{◌≡◌, ◌+◌, ◌-◌, ◌^◌, ◌<◌, ◌≤◌, length, true, IfOk, OnOk, OnErr};
+ghost use Rattle.std.specs.Prelude.{◌≡◌, ◌<◌, length};
 ghost use Rattle.formula_syntax.specs.Points.{at};
 ghost use Rattle.formula_syntax.specs.Steps.{one, maybe, passes};
 ghost use Rattle.formula_syntax.specs.Grammar as grammar;
@@ -7,40 +7,8 @@ ghost use Rattle.formula_syntax.specs.Given.{Reads, Onward, Makes};
 use crate::literals::{number_of, string_of};
 use crate::reading::{Reading, Stop};
 use crate::senses::Sense;
-use sqlite_items::Items;
-use std::alloc::Global;
-use tel_base::{Memory, Text};
+use tel_base::Text;
 use tel_term::{Expr, Term, Value};
-
-/// The place of a variable among these, or behind them.
-fn place_in(name: &[u8], vars: &[Text]) -> usize
-    ensures place { result ≡ grammar.place_in name.now vars.now }
-    ensures within { result ≤ length vars.now }
-{
-    for (place, var) in vars.iter().enumerate() {
-        if name == var.as_slice() {
-            return place;
-        }
-    }
-    vars.len()
-}
-
-/// The place of a variable among those that were seen. A new one is put behind them.
-fn numbered(alloc: Global, vars: &mut Items<Text>, name: &[u8]) -> Result<usize, Memory>
-    ensures place { IfOk result (λ place. place ≡ grammar.place_in name.now vars.old) }
-    ensures vars { OnOk result (vars.new ≡ grammar.with_var name.now vars.old) }
-    ensures within { IfOk result (λ place. place ≤ length vars.old) }
-    ensures room { length vars.new ≤ length vars.old + 1 }
-    ensures err { OnErr result (vars.new ≡ vars.old) }
-{
-    let place = place_in(name, vars.as_slice());
-    if place < vars.len() {
-        return Ok(place);
-    }
-    let name = Text::from_slice(alloc, name)?;
-    vars.push(name)?;
-    Ok(place)
-}
 
 impl<'t, 'b> Reading<'t, 'b> {
     /// Takes a token that is a name or a string.
@@ -61,7 +29,7 @@ impl<'t, 'b> Reading<'t, 'b> {
         ensures onward { Onward self.old self.new }
     {
         self.skip();
-        let place = numbered(self.alloc, &mut self.names.vars, name)?;
+        let place = self.names.vars.place(self.alloc, name)?;
         Ok(Expr::Var(place as u32))
     }
 
@@ -72,9 +40,7 @@ impl<'t, 'b> Reading<'t, 'b> {
         ensures onward { Onward self.old self.new }
     {
         self.skip();
-        let place = self.names.vars.len();
-        let name = Text::from_slice(self.alloc, b"_".as_slice())?;
-        self.names.vars.push(name)?;
+        let place = self.names.vars.blank(self.alloc)?;
         Ok(Expr::Var(place as u32))
     }
 

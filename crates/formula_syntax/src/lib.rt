@@ -14,6 +14,7 @@ mod names;
 mod operators;
 mod reading;
 mod senses;
+mod variables;
 
 pub use atoms::{Signed, primes};
 pub use entry::{expr, formula};
@@ -24,6 +25,7 @@ pub use marks::Mark;
 pub use names::Names;
 pub use reading::{Reading, Stop};
 pub use senses::{Sense, sense_of};
+pub use variables::Variables;
 
 #[cfg(test)]
 mod tests;

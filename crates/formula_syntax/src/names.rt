@@ -1,8 +1,7 @@
 ghost use Rattle.std.specs.Prelude.{◌≡◌, []};
 
-use sqlite_items::Items;
+use crate::variables::Variables;
 use std::alloc::Global;
-use tel_base::Text;
 use tel_term::Symbols;
 
 /// What a reading has seen so far: the names and strings of the program, which have numbers, and the
@@ -11,7 +10,7 @@ use tel_term::Symbols;
 #[derive(Drop)]
 pub struct Names {
     pub symbols: Symbols,
-    pub vars: Items<Text>,
+    pub vars: Variables,
 }
 
 impl Names {
@@ -22,7 +21,7 @@ impl Names {
     {
         Names {
             symbols: Symbols::new(alloc),
-            vars: Items::new(alloc),
+            vars: Variables::new(alloc),
         }
     }
 }

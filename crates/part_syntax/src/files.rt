@@ -10,10 +10,10 @@ ghost use Rattle.part_syntax.specs.Outcomes as outcomes;
 
 use crate::fault::ReadFault;
 use crate::texts::text;
-use formula_syntax::{Names, Reading, Stop};
+use formula_syntax::{Names, Reading, Stop, Variables};
 use sqlite_items::Items;
 use std::alloc::Global;
-use tel_base::{Place, Text};
+use tel_base::{HashKey, Place, Text};
 use tel_lex::{LexFault, Lexed, Token, lex};
 use tel_rule::{Program, Statement};
 use tel_term::Symbols;
@@ -80,6 +80,7 @@ pub struct SoFar {
 /// Puts the statements of the tokens of a text behind those so far.
 fn read_tokens(
     alloc: Global,
+    key: HashKey,
     levels: u8,
     tokens: &[Token],
     fault: Option<LexFault>,
@@ -97,7 +98,7 @@ fn read_tokens(
         symbols,
         statements,
     } = before;
-    let vars = Items::new(alloc);
+    let vars = Variables::keyed(alloc, key);
     let names = Names { symbols, vars };
     let mut reading = Reading {
         alloc,
@@ -122,6 +123,7 @@ fn read_tokens(
 /// Puts the statements of a text behind those so far.
 fn read_file(
     alloc: Global,
+    key: HashKey,
     levels: u8,
     file: u32,
     bytes: &Text,
@@ -137,21 +139,27 @@ fn read_file(
     match lex(alloc, bytes.as_slice(), file) {
         Ok(lexed) => {
             let Lexed { tokens, fault, end } = lexed;
-            read_tokens(alloc, levels, tokens.as_slice(), fault, end, before)
+            read_tokens(alloc, key, levels, tokens.as_slice(), fault, end, before)
         }
         Err(_) => Err(ReadFault::Memory),
     }
 }
 
-/// Reads texts, one after another, from the file with number 1 on.
-pub fn read_texts(alloc: Global, levels: u8, texts: &[Text]) -> Result<Program, ReadFault>
+/// Reads texts, one after another, from the file with number 1 on. The key is that of the hashes of their
+/// names, and changes no answer.
+pub fn read_texts(
+    alloc: Global,
+    key: HashKey,
+    levels: u8,
+    texts: &[Text],
+) -> Result<Program, ReadFault>
     requires bytes { total_bytes texts.now ≤ 2 ^ 20 }
     requires files { length texts.now ≤ 16 }
     ensures ok { IfOk result (λ program. outcomes.TextsRead levels 1 texts.now [] program.statements program.symbols) }
     ensures err { IfErr result (λ why. why ≢ ReadFault.Memory → outcomes.TextsFail levels 1 texts.now [] why) }
     ensures few { IfOk result (λ program. length program.statements ≤ total_bytes texts.now) }
 {
-    let symbols = Symbols::new(alloc);
+    let symbols = Symbols::keyed(alloc, key);
     let statements = Items::new(alloc);
     let mut before = SoFar {
         symbols,
@@ -159,7 +167,7 @@ pub fn read_texts(alloc: Global, levels: u8, texts: &[Text]) -> Result<Program, 
     };
     let mut file = 1;
     for bytes in texts {
-        before = match read_file(alloc, levels, file, bytes, before) {
+        before = match read_file(alloc, key, levels, file, bytes, before) {
             Ok(after) => after,
             Err(fault) => return Err(fault),
         };

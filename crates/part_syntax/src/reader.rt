@@ -6,7 +6,7 @@ ghost use Rattle.part_syntax.specs.Programs.{IsProgram, IsFirstFault, total_byte
 use crate::fault::ReadFault;
 use crate::files::read_texts;
 use std::alloc::Global;
-use tel_base::Text;
+use tel_base::{HashKey, Text};
 use tel_rule::Program;
 
 /// How many levels may be open at once inside the first one.
@@ -34,5 +34,5 @@ pub fn read(alloc: Global, texts: &[Text]) -> Result<Program, ReadFault>
     ensures none { IfErr result (λ fault. fault ≢ ReadFault.Memory → (program : Program) → IsProgram texts.now program → ⊥) }
     ensures few { IfOk result (λ program. length program.statements ≤ total_bytes texts.now) }
 {
-    read_texts(alloc, FURTHER_LEVELS, texts)
+    read_texts(alloc, HashKey::of(texts), FURTHER_LEVELS, texts)
 }

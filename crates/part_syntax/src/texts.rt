@@ -11,7 +11,6 @@ use crate::items::{Item, at_item, next_item};
 use formula_syntax::{Reading, Stop};
 use sqlite_items::Items;
 use std::alloc::AllocError;
-use std::mem;
 use tel_base::{Place, Text};
 use tel_rule::{Part, Statement};
 
@@ -28,7 +27,7 @@ fn take_vars(reading: &mut Reading) -> Items<Text>
     ensures vars { result ≡ reading.old.known.vars }
     ensures point { reading.new ≡ at (grammar.afresh reading.old.known) reading.old.words }
 {
-    mem::replace(&mut reading.names.vars, Items::new(reading.alloc))
+    reading.names.vars.take(reading.alloc)
 }
 
 /// The place of the next token, if there is one.
