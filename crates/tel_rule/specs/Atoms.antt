@@ -1,38 +1,16 @@
 -- Atoms over the names, strings and numbers that they are made of, and their order.
 use Rattle.std.specs.Prelude.{ℕ, Bool, true, false, not, ◌&&◌, List, [], ◌∷◌, map, length, nat_lt, ◌==◌, slice_index_or}
 use Rattle.std.specs.List.{list_all, filter, flat_map, range_with_len}
-use Rattle.std.specs.Ordering.{nat_cmp, int_cmp, int_eq, bool_cmp, ordering_then, is_lt}
+use Rattle.std.specs.Ordering.{nat_cmp, int_eq, bool_cmp, ordering_then, is_lt}
 use Rattle.std.specs.Cmp.Lexicographic.{slice_cmp}
 use Rattle.std.specs.declared.cmp.Ordering.{Ordering}
-use Rattle.std.specs.declared.cmp.Ordering.TheVariants.{Less, Greater}
 use Rattle.tel_term.specs.declared.terms.Term.{Term}
 use Rattle.tel_term.specs.declared.terms.Term.TheVariants as terms
 use Rattle.tel_term.specs.declared.terms.Value.{Value}
 use Rattle.tel_term.specs.declared.terms.Value.TheVariants as values
 use Rattle.tel_rule.specs.declared.ground.GroundAtom.{GroundAtom}
 use Rattle.tel_rule.specs.Rising.{name_cmp}
-
--- the order of terms: numbers before names before strings, numbers by value, names and strings by their bytes
-abbrev pub term_cmp : Term → Term → Ordering
-term_cmp (terms.Num m) (terms.Num n) = int_cmp m n
-term_cmp (terms.Num m) other = Less
-term_cmp (terms.Name a) (terms.Num n) = Greater
-term_cmp (terms.Name a) (terms.Name b) = name_cmp a b
-term_cmp (terms.Name a) (terms.Str b) = Less
-term_cmp (terms.Str a) (terms.Str b) = name_cmp a b
-term_cmp (terms.Str a) other = Greater
-
--- the term with a number; a number past the end has the empty name
-abbrev pub symbol_of : List Term → ℕ → Term
-symbol_of symbols number = slice_index_or symbols number (terms.Name [])
-
--- the term that a value stands for
-abbrev pub term_of : List Term → Value → Term
-term_of symbols (values.Num n) = terms.Num n
-term_of symbols (values.Sym number) = symbol_of symbols number
-
-abbrev pub value_cmp : List Term → Value → Value → Ordering
-value_cmp symbols a b = term_cmp (term_of symbols a) (term_of symbols b)
+pub use Rattle.tel_term.specs.Order.{term_cmp, symbol_of, term_at as term_of, value_cmp, value_in_range}
 
 -- the bytes of a name
 abbrev pub name_bytes : Term → List ℕ
@@ -53,10 +31,6 @@ atom_lt symbols a b = is_lt (atom_cmp symbols a b)
 abbrev pub is_name : Term → Bool
 is_name (terms.Name bytes) = true
 is_name other = false
-
-abbrev pub value_in_range : List Term → Value → Bool
-value_in_range symbols (values.Num n) = true
-value_in_range symbols (values.Sym number) = nat_lt number (length symbols)
 
 -- the name of an atom is a name among the symbols, and the names and strings of its arguments are among them
 abbrev pub atom_in_range : List Term → GroundAtom → Bool

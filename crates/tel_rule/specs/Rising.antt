@@ -1,14 +1,9 @@
 -- Lists that strictly rise: numbers by value, and names by their bytes, a name before those that it begins.
 use Rattle.std.specs.Prelude.{ℕ, Bool, true, ◌&&◌, List, [], ◌∷◌, nat_lt}
 use Rattle.std.specs.List.{list_any}
-use Rattle.std.specs.Ordering.{nat_cmp, is_lt, match_ordering}
+use Rattle.std.specs.Ordering.{is_lt, match_ordering}
 use Rattle.std.specs.Str.{bytes_eq}
-use Rattle.std.specs.Cmp.Lexicographic.{slice_cmp}
-use Rattle.std.specs.declared.cmp.Ordering.{Ordering}
-
--- the order of names, by their bytes, a prefix first
-abbrev pub name_cmp : List ℕ → List ℕ → Ordering
-name_cmp a b = slice_cmp nat_cmp a b
+pub use Rattle.tel_term.specs.Order.{name_cmp}
 
 -- whether a name comes strictly before another
 abbrev pub name_lt : List ℕ → List ℕ → Bool
