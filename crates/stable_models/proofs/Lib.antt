@@ -13,3 +13,4 @@ pub mod Stables
 pub mod Found
 pub mod ModuleRules
 pub mod LawProofs
+pub mod Examples
