@@ -14,3 +14,4 @@ pub mod Found
 pub mod ModuleRules
 pub mod LawProofs
 pub mod Examples
+pub mod BodyValues

@@ -1,5 +1,5 @@
 -- The stable sets of the program of a length are its temporal equilibrium models.
-use Rattle.std.specs.Prelude.{◌≡◌, ℕ, ◌<◌, true, ◌&&◌, List, length, slice_index_or, IsTrue}
+use Rattle.std.specs.Prelude.{◌≡◌, ℕ, ◌<◌, true, ◌&&◌, List, length, slice_get, slice_index_or, IsTrue}
 use Rattle.std.specs.List.{Contains}
 use Rattle.tel_rule.specs.Ground.{Ground, IsGround}
 use Rattle.tel_rule.specs.Nodes.{guards}
@@ -9,9 +9,9 @@ use Rattle.tel_semantics.specs.Satisfaction.{sat}
 use Rattle.tel_semantics.specs.Laws.{MeetsAll}
 use Rattle.tel_semantics.specs.Equilibrium.{list_of}
 use Rattle.normal_program.specs.StableSets.{Set}
-use Rattle.atom_space.specs.Numbers.{visible, part}
+use Rattle.atom_space.specs.Numbers.{visible, part, body_at, end_at}
 use Rattle.formula_unfold.specs.Nodes.{counts_of}
-use Rattle.stable_models.specs.Values.{full}
+use Rattle.stable_models.specs.Values.{full, body_value, full_with_bodies}
 use Rattle.stable_models.specs.Programs.{IsStableAt, IsSupportedAt, is_closed_at}
 
 -- the set of a trace
@@ -64,3 +64,13 @@ ModelsAreClosed = (program : Ground) (n : ℕ) (H T : Test) → IsGround program
 abbrev pub ClosedAreModels : Type 0
 ClosedAreModels =
     (program : Ground) (n : ℕ) (T : Test) (X : Set) → IsGround program → 0 < n → MeetsAll program n T T → IsTrue (is_closed_at program n (full program n T T) X) → MeetsAll program n (λ k a. T k a && X (visible (counts_of program) a k)) T
+
+-- with the variables of bodies nothing else changes, and each has the truth of its body
+pub record BodiesAreAdded (program : Ground) (n : ℕ) (T : Test) : Type 0 where
+  pub atoms : (a t : ℕ) → a < length program.atoms → full_with_bodies program n T (visible (counts_of program) a t) ≡ full program n T T (visible (counts_of program) a t)
+  pub nodes : (x t : ℕ) → x < length program.nodes → full_with_bodies program n T (part (counts_of program) x t) ≡ full program n T T (part (counts_of program) x t)
+  pub ends : (t : ℕ) → full_with_bodies program n T (end_at (counts_of program) t) ≡ full program n T T (end_at (counts_of program) t)
+  pub bodies : (r t : ℕ) → r < length program.instances → t < n → full_with_bodies program n T (body_at (counts_of program) r t) ≡ body_value program (full program n T T) t (slice_get program.instances r)
+
+abbrev pub SetsHaveBodies : Type 0
+SetsHaveBodies = (program : Ground) (n : ℕ) (T : Test) → BodiesAreAdded program n T

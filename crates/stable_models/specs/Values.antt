@@ -1,12 +1,14 @@
 -- The values that the variables have in an HT-trace.
-use Rattle.std.specs.Prelude.{ℕ, ◌+◌, ◌-◌, ◌/◌, ◌%◌, Bool, ◌&&◌, length, nat_lt, ◌==◌, if◌then◌else◌}
+use Rattle.std.specs.Prelude.{ℕ, ◌+◌, ◌-◌, ◌/◌, ◌%◌, Bool, false, ◌&&◌, ◌||◌, length, Option, Some, None, nat_lt, nat_le, ◌==◌, slice_get, if◌then◌else◌}
+use Rattle.tel_rule.specs.declared.ground.Instance.{Instance}
 use Rattle.tel_rule.specs.Ground.{Ground}
 use Rattle.tel_semantics.specs.Traces.{Test}
 use Rattle.tel_semantics.specs.NodeFormula.{node_formula}
 use Rattle.tel_semantics.specs.Satisfaction.{sat}
 use Rattle.atom_space.specs.Numbers.{width}
-use Rattle.normal_program.specs.StableSets.{Set}
+use Rattle.normal_program.specs.StableSets.{Set, lits_hold}
 use Rattle.formula_unfold.specs.Nodes.{counts_of}
+use Rattle.step_module.specs.Bodies.{stands, body_lits}
 
 -- the value of the variable at this place of the state t: an atom's in H, a node's in (H, T), that of the end; a body's variable has none
 abbrev pub place_value : Ground → ℕ → Test → Test → ℕ → ℕ → Bool
@@ -20,3 +22,15 @@ abbrev pub full : Ground → ℕ → Test → Test → Set
 full program n H T v =
     let w = width (counts_of program) in
     nat_lt (v / w) n && place_value program n H T (v / w) (v % w)
+
+-- whether the body of an instance holds in S at the state t, where it stands there
+abbrev pub body_value : Ground → Set → ℕ → Option Instance → Bool
+body_value program S t None = false
+body_value program S t (Some instance) = stands t instance && lits_hold S S (body_lits (counts_of program) t instance)
+
+-- the set of the trace T, and the variables of the bodies that stand and hold in it
+abbrev pub full_with_bodies : Ground → ℕ → Test → Set
+full_with_bodies program n T v =
+    let w = width (counts_of program) in
+    let first = length program.atoms + length program.nodes in
+    full program n T T v || (nat_lt (v / w) n && (nat_le first (v % w) && body_value program (full program n T T) (v / w) (slice_get program.instances (v % w - first))))

@@ -1,6 +1,6 @@
 //! Laws of the definitions: functions that do nothing, whose contracts are proved facts.
 
-ghost use Rattle.stable_models.specs.Laws.{ModelsAreStable, StableAreModels, SetsDiffer, NodesOfSupported, StableAreSupported, NodesOfStable, NodesOfClosed, ModelsAreClosed, ClosedAreModels};
+ghost use Rattle.stable_models.specs.Laws.{ModelsAreStable, StableAreModels, SetsDiffer, NodesOfSupported, StableAreSupported, NodesOfStable, NodesOfClosed, ModelsAreClosed, ClosedAreModels, SetsHaveBodies};
 
 /// In a supported set of the program of a length, and so in a stable one, the variable of a node is
 /// true exactly where its formula holds in the trace of the set.
@@ -22,4 +22,10 @@ pub fn stable_sets()
     ensures models { ModelsAreStable }
     ensures sets { StableAreModels }
     ensures one { SetsDiffer }
+{}
+
+/// The set of a trace with the variables of its bodies differs in these alone, and each has the truth
+/// of its body.
+pub fn sets_with_bodies()
+    ensures { SetsHaveBodies }
 {}
