@@ -2,6 +2,7 @@ pub mod Fronts
 pub mod Writing
 pub mod FormulaLayers
 pub mod Named
+pub mod Printable
 pub mod Growing
 pub mod InRange
 pub mod Numbers

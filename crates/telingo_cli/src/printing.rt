@@ -1,7 +1,8 @@
 //! A whole length, printed as the run goes.
-ghost use Rattle.std.specs.Prelude.{◌≡◌, ℕ, ◌++◌, length};
-ghost use Rattle.std.specs.List.{flat_map};
+ghost use Rattle.std.specs.Prelude.{◌≡◌, ℕ, ◌++◌, length, IsTrue};
+ghost use Rattle.std.specs.List.{flat_map, list_all};
 ghost use Rattle.tel_semantics.specs.Print.{trace_lines, print};
+ghost use Rattle.trace_print.specs.States.{are_below};
 ghost use Rattle.trace_print.specs.Waiting.{Writes};
 
 use tel_base::{Failed, Sink};
@@ -11,6 +12,7 @@ use trace_print::{print_end, print_length, print_trace};
 
 /// Prints the lines of these traces.
 fn print_traces<O: Sink>(out: &mut O, template: &Template, traces: &[Trace]) -> Result<(), Failed>
+    requires { IsTrue (list_all (list_all (are_below (length template.now.atoms))) traces.now) }
     ensures { Writes result (flat_map (trace_lines template.now) traces.now) (O.bytes out.old) (O.bytes out.new) (O.faults out.old) (O.faults out.new) }
 {
     for trace in traces {
@@ -30,6 +32,7 @@ pub fn print_all<O: Sink>(
     traces: &[Trace],
     how: How,
 ) -> Result<(), Failed>
+    requires { IsTrue (list_all (list_all (are_below (length template.now.atoms))) traces.now) }
     ensures { Writes result (print template.now n traces.now how) (O.bytes out.old) (O.bytes out.new) (O.faults out.old) (O.faults out.new) }
 {
     match print_length(out, n) {

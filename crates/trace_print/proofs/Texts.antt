@@ -1,10 +1,10 @@
 -- The texts of atoms and of their arguments.
-use Rattle.std.proofs.Common.{◌≡◌, ℕ, zero, suc, ◌-◌, ◌<◌, ◌≤◌, Bool, true, false, List, [], ◌∷◌, ◌++◌, length, map, take, drop, get_or, codes, Some, None, sym, ap, subst, ◌∙◌, ⊎_elim, arith}
+use Rattle.std.proofs.Common.{◌≡◌, ℕ, zero, suc, ◌-◌, ◌<◌, Bool, true, false, List, [], ◌∷◌, ◌++◌, length, take, drop, get_or, codes, Some, sym, ap, subst, ◌∙◌, arith}
 use Rattle.std.specs.Prelude.{slice_get, if◌then◌else◌}
 use Rattle.std.specs.List.{flat_map, list_all}
 use Rattle.std.proofs.lemmas.Bool.{and_parts}
-use Rattle.std.proofs.lemmas.Option.{get_or_from_slice_get, slice_get_within, slice_get_cases}
-use Rattle.std.proofs.lemmas.List.{get_or-map, get_or_past, length-map, take_all}
+use Rattle.std.proofs.lemmas.Option.{get_or_from_slice_get, slice_get_within}
+use Rattle.std.proofs.lemmas.List.{get_or-map, take_all}
 use Rattle.tel_term.specs.declared.terms.Term.{Term}
 use Rattle.tel_term.specs.declared.terms.Term.TheVariants as terms
 use Rattle.tel_term.specs.declared.terms.Value.{Value}
@@ -44,17 +44,6 @@ numbered-there program seen atom found same there =
     ap (λ (p : Ground). numbered_text p atom) (sym same)
     ∙ get_or-map (ground_text seen.symbols) seen.atoms atom found [] (slice_get_within seen.atoms atom found there)
     ∙ ap (ground_text seen.symbols) (get_or_from_slice_get seen.atoms atom found found there)
-
-past_from_none : {X : Type 0} (xs : List X) (i : ℕ) → slice_get xs i ≡ None → length xs ≤ i
-past_from_none xs i none =
-    ⊎_elim (λ w. let both = sym none ∙ w.2 in absurd cc) (λ past. past.0) (slice_get_cases xs i).1
-
--- past the end there is no text
-pub numbered-past : (program seen : Ground) (atom : ℕ) → seen ≡ program → slice_get seen.atoms atom ≡ None → numbered_text program atom ≡ []
-unfolding numbered_text
-numbered-past program seen atom same none =
-    let past : length (map (ground_text seen.symbols) seen.atoms) ≤ atom = omega (arith, past_from_none seen.atoms atom none, length-map seen.atoms (ground_text seen.symbols)) in
-    ap (λ (p : Ground). numbered_text p atom) (sym same) ∙ get_or_past (map (ground_text seen.symbols) seen.atoms) atom [] past
 
 pub hidden : (program seen : Ground) (atom : ℕ) → seen ≡ program → is_shown seen.show atom ≡ false → atom_text program atom ≡ []
 unfolding atom_text

@@ -1,5 +1,5 @@
 //! Atoms, piece by piece.
-ghost use Rattle.std.specs.Prelude.{◌≡◌, ℕ, ◌++◌, [], ◌∷◌, codes, length, IsTrue, if◌then◌else◌};
+ghost use Rattle.std.specs.Prelude.{◌≡◌, ℕ, ◌<◌, ◌++◌, [], ◌∷◌, codes, length, IsTrue, if◌then◌else◌};
 ghost use Rattle.std.specs.List.{flat_map, list_all};
 ghost use Rattle.std.specs.Fmt.{signed_decimal};
 ghost use Rattle.tel_rule.specs.Atoms.{name_bytes, value_in_range, atom_in_range};
@@ -232,17 +232,18 @@ fn put_ground<O: Sink, const ROOM: usize>(
     }
 }
 
-/// Puts the atom with this number. A number that no atom has puts nothing.
+/// Puts the atom with this number.
 pub fn put_numbered<O: Sink, const ROOM: usize>(
     out: &mut O,
     waiting: &mut ArrayVec<u8, ROOM>,
     template: &Template,
     atom: u32,
 ) -> Result<(), Failed>
+    requires { atom < length template.now.atoms }
     ensures { Puts result (numbered_text template.now atom) (O.bytes out.old) (O.bytes out.new) waiting.old.items waiting.new.items (O.faults out.old) (O.faults out.new) }
 {
     match template.atoms.get(atom as usize) {
         Some(found) => put_ground(out, waiting, &template.symbols, found),
-        None => Ok(()),
+        None => unreachable!(),
     }
 }

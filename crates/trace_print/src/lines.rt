@@ -1,7 +1,8 @@
 //! The lines of the output, piece by piece.
-ghost use Rattle.std.specs.Prelude.{◌≡◌, ◌++◌, [], codes, decimal};
-ghost use Rattle.std.specs.List.{flat_map};
+ghost use Rattle.std.specs.Prelude.{◌≡◌, ◌<◌, ◌++◌, [], codes, decimal, length, IsTrue};
+ghost use Rattle.std.specs.List.{flat_map, list_all};
 ghost use Rattle.tel_semantics.specs.Print.{atom_text, state_line, state_lines, trace_lines, how_text};
+ghost use Rattle.trace_print.specs.States.{are_below};
 ghost use Rattle.trace_print.specs.Waiting.{Puts};
 
 use crate::atoms::{is_shown, put_numbered};
@@ -41,6 +42,7 @@ fn put_atom<O: Sink, const ROOM: usize>(
     template: &Template,
     atom: u32,
 ) -> Result<(), Failed>
+    requires { atom < length template.now.atoms }
     ensures { Puts result (atom_text template.now atom) (O.bytes out.old) (O.bytes out.new) waiting.old.items waiting.new.items (O.faults out.old) (O.faults out.new) }
 {
     if !is_shown(&template.show, atom) {
@@ -59,6 +61,7 @@ fn put_atoms<O: Sink, const ROOM: usize>(
     template: &Template,
     state: &[u32],
 ) -> Result<(), Failed>
+    requires { IsTrue (are_below (length template.now.atoms) state.now) }
     ensures { Puts result (flat_map (atom_text template.now) state.now) (O.bytes out.old) (O.bytes out.new) waiting.old.items waiting.new.items (O.faults out.old) (O.faults out.new) }
 {
     for atom in state {
@@ -78,6 +81,7 @@ fn put_state<O: Sink, const ROOM: usize>(
     instant: usize,
     state: &[u32],
 ) -> Result<(), Failed>
+    requires { IsTrue (are_below (length template.now.atoms) state.now) }
     ensures { Puts result (state_line template.now instant state.now) (O.bytes out.old) (O.bytes out.new) waiting.old.items waiting.new.items (O.faults out.old) (O.faults out.new) }
 {
     match put_counted(out, waiting, b"state ", instant as u64, b":") {
@@ -97,6 +101,7 @@ fn put_states<O: Sink, const ROOM: usize>(
     template: &Template,
     states: &[Items<u32>],
 ) -> Result<(), Failed>
+    requires { IsTrue (list_all (are_below (length template.now.atoms)) states.now) }
     ensures { Puts result (state_lines template.now 0 states.now) (O.bytes out.old) (O.bytes out.new) waiting.old.items waiting.new.items (O.faults out.old) (O.faults out.new) }
 {
     for (instant, state) in states.iter().enumerate() {
@@ -115,6 +120,7 @@ pub fn put_trace<O: Sink, const ROOM: usize>(
     template: &Template,
     states: &[Items<u32>],
 ) -> Result<(), Failed>
+    requires { IsTrue (list_all (are_below (length template.now.atoms)) states.now) }
     ensures { Puts result (trace_lines template.now states.now) (O.bytes out.old) (O.bytes out.new) waiting.old.items waiting.new.items (O.faults out.old) (O.faults out.new) }
 {
     match put(out, waiting, b"trace\n") {

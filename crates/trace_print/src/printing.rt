@@ -1,8 +1,10 @@
 //! The calls that print. Each has written all of its bytes when it returns.
-ghost use Rattle.std.specs.Prelude.{◌≡◌, ◌++◌, [], decimal, OnOk, OnErr};
+ghost use Rattle.std.specs.Prelude.{◌≡◌, ◌++◌, [], decimal, length, IsTrue, OnOk, OnErr};
+ghost use Rattle.std.specs.List.{list_all};
 ghost use Rattle.tel_base.specs.Bytes.{Appends, AppendsFront};
 ghost use Rattle.tel_base.specs.Counts.{HasCause};
 ghost use Rattle.tel_semantics.specs.Print.{header_line, trace_lines, closing_line};
+ghost use Rattle.trace_print.specs.States.{are_below};
 ghost use Rattle.trace_print.specs.Waiting.{Writes};
 
 use crate::lines::{closing_word, put_counted, put_trace};
@@ -40,7 +42,8 @@ fn write_trace<O: Sink, const SIZE: usize>(
     template: &Template,
     states: &[Items<u32>],
 ) -> Result<(), Failed>
-    requires { waiting.old.items ≡ [] }
+    requires empty { waiting.old.items ≡ [] }
+    requires below { IsTrue (list_all (are_below (length template.now.atoms)) states.now) }
     ensures { Writes result (trace_lines template.now states.now) (O.bytes out.old) (O.bytes out.new) (O.faults out.old) (O.faults out.new) }
 {
     match put_trace(out, waiting, template, states) {
@@ -59,10 +62,10 @@ pub fn print_length<O: Sink>(out: &mut O, n: u32) -> Result<(), Failed>
     write_counted(out, &mut waiting, b"length ", u64::from(n), b"\n")
 }
 
-/// Prints a trace: the line `trace`, and a line for each of its states with the shown atoms that are
-/// true there. A number that no atom of the template has gives nothing. After an error some front of
-/// the lines is written.
+/// Prints a trace over the atoms of the template: the line `trace`, and a line for each of its states
+/// with the shown atoms that are true there. After an error some front of the lines is written.
 pub fn print_trace<O: Sink>(out: &mut O, template: &Template, trace: &Trace) -> Result<(), Failed>
+    requires { IsTrue (list_all (are_below (length template.now.atoms)) trace.now) }
     ensures ok { OnOk result (Appends (O.bytes out.old) (O.bytes out.new) (trace_lines template.now trace.now)) }
     ensures err { OnErr result (AppendsFront (O.bytes out.old) (O.bytes out.new) (trace_lines template.now trace.now)) }
     ensures cause { HasCause (O.faults out.old) (O.faults out.new) result }

@@ -1,5 +1,4 @@
-use Rattle.std.proofs.Common.{◌≡◌, ◌∙◌, List, [], ◌∷◌, refl}
-use Rattle.tel_term.specs.declared.terms.Term.{Term}
+use Rattle.std.proofs.Common.{◌≡◌, ◌∙◌, [], ◌∷◌, refl}
 use Rattle.tel_term.specs.declared.terms.Term.TheVariants as terms
 use Rattle.tel_term.specs.Symbols.{with_term}
 use Rattle.trace_print.proofs.tests.name_and_string.Goals as goal
