@@ -1,5 +1,5 @@
 -- The texts of the file words, one after another.
-use Rattle.std.proofs.Common.{◌≡◌, ℕ, ◌+◌, ◌<◌, ◌≤◌, zero, suc, Bool, true, false, ◌||◌, cond, not, nat_lt, List, [], ◌∷◌, ◌++◌, length, take, drop, get_or, Option, Some, None, unwrap_or, refl, sym, ap, ◌∙◌, subst, arith, IfSome}
+use Rattle.std.proofs.Common.{map, ◌≡◌, ℕ, ◌+◌, ◌<◌, ◌≤◌, zero, suc, Bool, true, false, ◌||◌, cond, not, nat_lt, List, [], ◌∷◌, ◌++◌, length, take, drop, get_or, Option, Some, None, unwrap_or, refl, sym, ap, ◌∙◌, subst, arith, IfSome}
 use Rattle.std.specs.List.{prefix_len, list_any}
 use Rattle.std.specs.Str.{bytes_eq}
 use Rattle.std.proofs.Math.Seq.{drop-cons}
@@ -13,7 +13,7 @@ use Rattle.tel_settings.specs.declared.fields.Input.TheVariants as inputs
 use Rattle.tel_settings.specs.Command.{HasFiles}
 use Rattle.part_syntax.specs.Programs.{total_bytes}
 use Rattle.telingo_cli.specs.Reading.{largest_text, IsTold, HasMore}
-use Rattle.telingo_cli.specs.Texts.{AreTold, AreWhole, HaveLargeTexts, FailsAt, first_place}
+use Rattle.telingo_cli.specs.Texts.{AreTold, HaveLargeTexts, FailsAt, first_place}
 use Rattle.telingo_cli.specs.Top.{files_in}
 
 pub told-append : (told : List ℕ → Option (List ℕ)) (a b xs ys : List (List ℕ)) → AreTold told a xs → AreTold told b ys → AreTold told (a ++ b) (xs ++ ys)
@@ -68,11 +68,15 @@ large_files told names texts place most name within there before total more =
     )
 
 -- the whole texts are those that were read
-pub whole-told : (told : List ℕ → Option (List ℕ)) (names texts read : List (List ℕ)) → AreWhole told names texts → AreTold told names read → texts ≡ read
-whole-told told [] texts read whole is = whole ∙ sym is
-whole-told told (name ∷ names) texts read whole is =
-    let first : whole.0 ≡ is.0 = subst (λ (o : Option (List ℕ)). IsTold o is.0) whole.3 is.3 in
-    whole.2 ∙ (λ i. first i ∷ whole-told told names whole.1 is.1 whole.4 is.4 i) ∙ sym is.2
+pub whole-told : (told : List ℕ → Option (List ℕ)) (names texts read : List (List ℕ)) → map told names ≡ map Some texts → AreTold told names read → texts ≡ read
+whole-told told [] [] read whole is = sym is
+whole-told told [] (text ∷ texts) read whole is = absurd cc
+whole-told told (name ∷ names) [] read whole is = absurd cc
+whole-told told (name ∷ names) (text ∷ texts) read whole is =
+    let here : told name ≡ Some text = cc in
+    let more : map told names ≡ map Some texts = cc in
+    let first : text ≡ is.0 = subst (λ (o : Option (List ℕ)). IsTold o is.0) here is.3 in
+    (λ i. first i ∷ whole-told told names texts is.1 more is.4 i) ∙ sym is.2
 
 told-take : (told : List ℕ → Option (List ℕ)) (names texts : List (List ℕ)) (k : ℕ) → AreTold told names texts → AreTold told (take k names) (take k texts)
 told-take told names texts zero is = refl

@@ -3,7 +3,6 @@ use Rattle.std.proofs.Common.{◌≡◌, ◌≢◌, ℕ, ◌<◌, ◌≤◌, ◌
 use Rattle.std.specs.List.{list_any}
 use Rattle.std.proofs.lemmas.Bool.{false≢true, cases_lt}
 use Rattle.tel_base.specs.declared.places.Place.{Place}
-use Rattle.tel_base.specs.Bytes.{Appends}
 use Rattle.tel_base.specs.Counts.{Rose, Stands}
 use Rattle.tel_base.proofs.Told.{stands-not-rose, front-of-nothing}
 use Rattle.tel_rule.specs.declared.statements.Program.{Program}
@@ -12,6 +11,7 @@ use Rattle.tel_settings.specs.Run.{lengths_of}
 use Rattle.part_syntax.specs.declared.fault.ReadFault.{ReadFault}
 use Rattle.part_syntax.specs.declared.fault.ReadFault.TheVariants as faults
 use Rattle.part_syntax.specs.Programs.{IsProgram, IsFirstFault, total_bytes}
+use Rattle.part_syntax.proofs.Decided.{some_verdict as program_or_fault}
 use Rattle.telingo_cli.specs.Reading.{largest_text}
 use Rattle.telingo_cli.specs.Plain.{first_unbuilt}
 use Rattle.telingo_cli.specs.Naming.{most_atoms}
@@ -65,21 +65,17 @@ pub record IsFaultOf (texts : List (List ℕ)) (fault : ReadFault) : Type 0 wher
 memory_cut : (settings : Settings) (verdict : Verdict) (code : ℕ) (old new : Option (List ℕ)) → code ≡ 71 → new ≡ old → Delivers code (status_of settings verdict) (output_of settings verdict) old new
 memory_cut settings verdict code old new is same = inr (inl is, front-of-nothing old new (output_of settings verdict) same)
 
+named-delivers : (settings : Settings) (texts : List (List ℕ)) (fault : ReadFault) (code : ℕ) (old new : Option (List ℕ)) → total_bytes texts ≤ largest_text → IsFaultOf texts fault → Delivers code 65 (fault_line fault) old new → (verdict : Verdict) → IsVerdict settings texts verdict → Delivers code (status_of settings verdict) (output_of settings verdict) old new
+named-delivers settings texts fault code old new small is delivered =
+    refused-delivers (λ status bytes. Delivers code status bytes old new) settings texts fault small is.first is.none delivered
+
 -- texts with a fault have it for their verdict, unless memory runs out
 pub fault-delivers : (settings : Settings) (texts : List (List ℕ)) (fault : ReadFault) (code : ℕ) (old new : Option (List ℕ)) → total_bytes texts ≤ largest_text → (fault ≢ faults.Memory → IsFaultOf texts fault) → DeliversFault fault code old new → (verdict : Verdict) → IsVerdict settings texts verdict → Delivers code (status_of settings verdict) (output_of settings verdict) old new
-fault-delivers settings texts faults.Memory code old new small of delivered verdict v = memory_cut settings verdict code old new delivered.0 delivered.1
-fault-delivers settings texts (faults.BadByte place) code old new small of delivered verdict v =
-    let is = of (λ e. cc) in
-    refused-delivers (λ status bytes. Delivers code status bytes old new) settings texts (faults.BadByte place) small is.first is.none delivered verdict v
-fault-delivers settings texts (faults.NumberRange place) code old new small of delivered verdict v =
-    let is = of (λ e. cc) in
-    refused-delivers (λ status bytes. Delivers code status bytes old new) settings texts (faults.NumberRange place) small is.first is.none delivered verdict v
-fault-delivers settings texts (faults.TooDeep place) code old new small of delivered verdict v =
-    let is = of (λ e. cc) in
-    refused-delivers (λ status bytes. Delivers code status bytes old new) settings texts (faults.TooDeep place) small is.first is.none delivered verdict v
-fault-delivers settings texts (faults.Syntax place) code old new small of delivered verdict v =
-    let is = of (λ e. cc) in
-    refused-delivers (λ status bytes. Delivers code status bytes old new) settings texts (faults.Syntax place) small is.first is.none delivered verdict v
+fault-delivers settings texts faults.Memory code old new small of delivered = λ verdict v. memory_cut settings verdict code old new delivered.0 delivered.1
+fault-delivers settings texts (faults.BadByte place) code old new small of delivered = named-delivers settings texts (faults.BadByte place) code old new small (of (λ e. cc)) delivered
+fault-delivers settings texts (faults.NumberRange place) code old new small of delivered = named-delivers settings texts (faults.NumberRange place) code old new small (of (λ e. cc)) delivered
+fault-delivers settings texts (faults.TooDeep place) code old new small of delivered = named-delivers settings texts (faults.TooDeep place) code old new small (of (λ e. cc)) delivered
+fault-delivers settings texts (faults.Syntax place) code old new small of delivered = named-delivers settings texts (faults.Syntax place) code old new small (of (λ e. cc)) delivered
 
 not_cut : (code : ℕ) → (code ≡ 71) ⊎ (code ≡ 74) → TellsOfText code → ⊥
 not_cut code (inl e) tells = false≢true (subst TellsOfText e tells)
@@ -91,10 +87,10 @@ delivered-answers settings texts verdict code old new is (inl whole) tells = (ve
 delivered-answers settings texts verdict code old new is (inr cut) tells = absurd (not_cut code cut.0 tells)
 
 -- the verdict of a program, and what is delivered for it
-program_has : (settings : Settings) (texts : List (List ℕ)) (program : Program) (code : ℕ) (old new : Option (List ℕ)) (first : Option Place) → first_unbuilt program.statements ≡ first → total_bytes texts ≤ largest_text → IsProgram texts program → DeliversProgram (λ status bytes. Delivers code status bytes old new) settings program → (verdict : Verdict) × IsVerdict settings texts verdict × Delivers code (status_of settings verdict) (output_of settings verdict) old new
-program_has settings texts program code old new (Some place) is small reads delivers =
+program_has : (D : ℕ → List ℕ → Type 0) (settings : Settings) (texts : List (List ℕ)) (program : Program) (first : Option Place) → first_unbuilt program.statements ≡ first → total_bytes texts ≤ largest_text → IsProgram texts program → DeliversProgram D settings program → (verdict : Verdict) × IsVerdict settings texts verdict × D (status_of settings verdict) (output_of settings verdict)
+program_has D settings texts program (Some place) is small reads delivers =
     (Unbuilt place, (small, record { program = program; reads = reads; first = is }), delivers.unbuilt place is)
-program_has settings texts program code old new None is small reads delivers =
+program_has D settings texts program None is small reads delivers =
     let says : SayPlain texts program = record { reads = reads; plain = is } in
     elim (cases_lt most_atoms (places_of settings program)) [
       | inl many ↦ (Large, inr (small, (program, says, many)), delivers.large is many)
@@ -103,24 +99,16 @@ program_has settings texts program code old new None is small reads delivers =
 
 pub program-answers : (settings : Settings) (texts : List (List ℕ)) (program : Program) (code : ℕ) (old new : Option (List ℕ)) → total_bytes texts ≤ largest_text → IsProgram texts program → DeliversProgram (λ status bytes. Delivers code status bytes old new) settings program → TellsOfText code → Answers settings texts code old new
 program-answers settings texts program code old new small reads delivers tells =
-    let has = program_has settings texts program code old new (first_unbuilt program.statements) refl small reads delivers in
+    let has = program_has (λ status bytes. Delivers code status bytes old new) settings texts program (first_unbuilt program.statements) refl small reads delivers in
     delivered-answers settings texts has.0 code old new has.1 has.2 tells
 
 -- the same of texts with a fault
 pub fault-answers : (settings : Settings) (texts : List (List ℕ)) (fault : ReadFault) (code : ℕ) (old new : Option (List ℕ)) → total_bytes texts ≤ largest_text → (fault ≢ faults.Memory → IsFaultOf texts fault) → DeliversFault fault code old new → TellsOfText code → Answers settings texts code old new
 fault-answers settings texts faults.Memory code old new small of delivered tells = absurd (not_cut code (inl delivered.0) tells)
-fault-answers settings texts (faults.BadByte place) code old new small of delivered tells =
-    let is = of (λ e. cc) in
-    delivered-answers settings texts (Refused (faults.BadByte place)) code old new (small, is.is) delivered tells
-fault-answers settings texts (faults.NumberRange place) code old new small of delivered tells =
-    let is = of (λ e. cc) in
-    delivered-answers settings texts (Refused (faults.NumberRange place)) code old new (small, is.is) delivered tells
-fault-answers settings texts (faults.TooDeep place) code old new small of delivered tells =
-    let is = of (λ e. cc) in
-    delivered-answers settings texts (Refused (faults.TooDeep place)) code old new (small, is.is) delivered tells
-fault-answers settings texts (faults.Syntax place) code old new small of delivered tells =
-    let is = of (λ e. cc) in
-    delivered-answers settings texts (Refused (faults.Syntax place)) code old new (small, is.is) delivered tells
+fault-answers settings texts (faults.BadByte place) code old new small of delivered tells = delivered-answers settings texts (Refused (faults.BadByte place)) code old new (small, (of (λ e. cc)).is) delivered tells
+fault-answers settings texts (faults.NumberRange place) code old new small of delivered tells = delivered-answers settings texts (Refused (faults.NumberRange place)) code old new (small, (of (λ e. cc)).is) delivered tells
+fault-answers settings texts (faults.TooDeep place) code old new small of delivered tells = delivered-answers settings texts (Refused (faults.TooDeep place)) code old new (small, (of (λ e. cc)).is) delivered tells
+fault-answers settings texts (faults.Syntax place) code old new small of delivered tells = delivered-answers settings texts (Refused (faults.Syntax place)) code old new (small, (of (λ e. cc)).is) delivered tells
 
 -- a run ends with 10 or 20
 run_kind : (P : ℕ → Type 0) (found : Bool) → P 10 → P 20 → P (cond found 10 20)
@@ -143,7 +131,7 @@ delivered-kind settings verdict code old new (inr cut) = cut_kind code cut.0
 
 pub program-kind : (settings : Settings) (texts : List (List ℕ)) (program : Program) (code : ℕ) (old new : Option (List ℕ)) → total_bytes texts ≤ largest_text → IsProgram texts program → DeliversProgram (λ status bytes. Delivers code status bytes old new) settings program → ComesOfText code
 program-kind settings texts program code old new small reads delivers =
-    let has = program_has settings texts program code old new (first_unbuilt program.statements) refl small reads delivers in
+    let has = program_has (λ status bytes. Delivers code status bytes old new) settings texts program (first_unbuilt program.statements) refl small reads delivers in
     delivered-kind settings has.0 code old new has.2
 
 pub fault-kind : (settings : Settings) (fault : ReadFault) (code : ℕ) (old new : Option (List ℕ)) → DeliversFault fault code old new → ComesOfText code
@@ -169,10 +157,12 @@ accepted-complete settings program code old new before now (inr cut) rose stands
   | inr e ↦ absurd (stands-not-rose before now stands (rose e))
 ]
 
--- what was delivered under 66 was printed whole
-pub delivered-read : (code : ℕ) (bytes : List ℕ) (old new : Option (List ℕ)) → code ≡ 66 → Delivers code 66 bytes old new → Appends old new bytes
-delivered-read code bytes old new is (inl whole) = whole.1
-delivered-read code bytes old new is (inr cut) = elim cut.0 [
-  | inl e ↦ absurd (omega (arith, e, is))
-  | inr e ↦ absurd (omega (arith, e, is))
+-- texts have a verdict
+pub some_verdict : (settings : Settings) (texts : List (List ℕ)) → (verdict : Verdict) × IsVerdict settings texts verdict
+some_verdict settings texts = elim (cases_lt largest_text (total_bytes texts)) [
+  | inl long ↦ (Large, inl long)
+  | inr small ↦ elim (program_or_fault texts) [
+    | inl p ↦ let has = program_has (λ status bytes. Unit {0}) settings texts p.0 (first_unbuilt p.0.statements) refl small p.1 (record { accepted = λ _ _. tt; unbuilt = λ _ _. tt; large = λ _ _. tt }) in (has.0, has.1)
+    | inr f ↦ (Refused f.0, (small, f.1))
+  ]
 ]

@@ -1,5 +1,5 @@
 -- The texts of the file words.
-use Rattle.std.specs.Prelude.{◌≡◌, ℕ, ◌<◌, ◌≤◌, List, [], ◌∷◌, Option, Some, take, unwrap_or, IfSome, IsTrue}
+use Rattle.std.specs.Prelude.{◌≡◌, ℕ, ◌<◌, ◌≤◌, List, [], ◌∷◌, Option, take, unwrap_or, IfSome, IsTrue}
 use Rattle.std.specs.List.{position}
 use Rattle.std.specs.Str.{bytes_eq}
 use Rattle.tel_base.specs.Counts.{Rose}
@@ -7,18 +7,10 @@ use Rattle.tel_rule.specs.Rising.{has_name}
 use Rattle.part_syntax.specs.Programs.{total_bytes}
 use Rattle.telingo_cli.specs.Reading.{largest_text, IsTold}
 
--- there is a text for each name, in order, and each is the name's
-abbrev pub AreTexts : (List ℕ → List ℕ → Type 0) → List (List ℕ) → List (List ℕ) → Type 0
-AreTexts Is [] texts = texts ≡ []
-AreTexts Is (name ∷ names) texts = (text : List ℕ) × (rest : List (List ℕ)) × (texts ≡ text ∷ rest) × Is name text × AreTexts Is names rest
-
--- the texts are those of the names, each the told one where it is told
+-- the texts are those of the names, in order, each the told one where it is told
 abbrev pub AreTold : (List ℕ → Option (List ℕ)) → List (List ℕ) → List (List ℕ) → Type 0
-AreTold told names texts = AreTexts (λ name text. IsTold (told name) text) names texts
-
--- the whole texts of the names are told, and are these
-abbrev pub AreWhole : (List ℕ → Option (List ℕ)) → List (List ℕ) → List (List ℕ) → Type 0
-AreWhole told names texts = AreTexts (λ name text. told name ≡ Some text) names texts
+AreTold told [] texts = texts ≡ []
+AreTold told (name ∷ names) texts = (text : List ℕ) × (rest : List (List ℕ)) × (texts ≡ text ∷ rest) × IsTold (told name) text × AreTold told names rest
 
 -- the texts of the names, which are the told ones where they are told, have together more bytes than they may have
 abbrev pub HaveLargeTexts : (List ℕ → Option (List ℕ)) → List (List ℕ) → Type 0

@@ -2,12 +2,11 @@
 use Rattle.std.specs.Prelude.{◌≡◌, ℕ, List, [], ◌∷◌, Option, Some, map, string_bytes, IsTrue}
 use Rattle.std.specs.declared.string.String.{String}
 use Rattle.std.specs.declared.alloc.Global.{Global}
-use Rattle.tel_base.specs.Bytes.{Appends}
 use Rattle.tel_settings.specs.declared.fields.Settings.{Settings}
 use Rattle.tel_settings.specs.declared.fields.Input.{Input}
 use Rattle.tel_settings.specs.declared.fields.Input.TheVariants as inputs
 use Rattle.tel_settings.specs.Command.{settings_of}
-use Rattle.telingo_cli.specs.Texts.{AreTold, AreWhole, FailsAt, first_place}
+use Rattle.telingo_cli.specs.Texts.{AreTold, FailsAt, first_place}
 use Rattle.telingo_cli.specs.Delivery.{Delivers}
 use Rattle.telingo_cli.specs.Verdict.{Answers, read_line, is_among}
 
@@ -26,7 +25,7 @@ files_of settings = files_in settings.input
 -- the words are a line of the command with these settings, and the whole texts of its files are told and are these
 pub record AreTextsOf (words : List (List ℕ)) (told : List ℕ → Option (List ℕ)) (settings : Settings) (texts : List (List ℕ)) : Type 0 where
   pub line : settings_of words ≡ Some settings
-  pub whole : AreWhole told (files_of settings) texts
+  pub whole : map told (files_of settings) ≡ map Some texts
 
 -- the status and what was added answer texts, which are the told ones where they are told
 abbrev pub AnswersSome : Settings → (List ℕ → Option (List ℕ)) → ℕ → Option (List ℕ) → Option (List ℕ) → Type 0
@@ -36,22 +35,14 @@ AnswersSome settings told status old new = (texts : List (List ℕ)) × AreTold 
 abbrev pub AnswersWords : List (List ℕ) → (List ℕ → Option (List ℕ)) → ℕ → Option (List ℕ) → Option (List ℕ) → Type 0
 AnswersWords words told status old new = (settings : Settings) × (settings_of words ≡ Some settings) × AnswersSome settings told status old new
 
--- a read of a file failed, and what was added is what Says says of the line of the first word of that name
-abbrev pub FailsWith : (ℕ → Type 0) → Settings → (List ℕ → Option (List ℕ)) → Option (List ℕ) → ℕ → ℕ → Type 0
-FailsWith Says settings told failed before now =
-    (name : List ℕ) × FailsAt (files_of settings) told failed before now name × Says (first_place (files_of settings) name)
+-- a read of a file failed, and the line of that was delivered, with the place of the first word of its name
+abbrev pub FailedFile : Settings → (List ℕ → Option (List ℕ)) → Option (List ℕ) → ℕ → ℕ → ℕ → Option (List ℕ) → Option (List ℕ) → Type 0
+FailedFile settings told failed before now result old new =
+    (name : List ℕ) × FailsAt (files_of settings) told failed before now name × Delivers result 66 (read_line (first_place (files_of settings) name)) old new
 
--- the words are a line of the command, and a read of one of its files failed
-abbrev pub WordsFail : (ℕ → Type 0) → List (List ℕ) → (List ℕ → Option (List ℕ)) → Option (List ℕ) → ℕ → ℕ → Type 0
-WordsFail Says words told failed before now = (settings : Settings) × (settings_of words ≡ Some settings) × FailsWith Says settings told failed before now
-
--- and the line of that was added
-abbrev pub FailedRead : List (List ℕ) → (List ℕ → Option (List ℕ)) → Option (List ℕ) → ℕ → ℕ → Option (List ℕ) → Option (List ℕ) → Type 0
-FailedRead words told failed before now old new = WordsFail (λ place. Appends old new (read_line place)) words told failed before now
-
--- the same, delivered: the call may have been cut short
-abbrev pub DeliversFailedRead : List (List ℕ) → (List ℕ → Option (List ℕ)) → Option (List ℕ) → ℕ → ℕ → ℕ → Option (List ℕ) → Option (List ℕ) → Type 0
-DeliversFailedRead words told failed before now result old new = WordsFail (λ place. Delivers result 66 (read_line place) old new) words told failed before now
+-- the words are a line of the command, and this is so of one of its files; with 66 the whole line was added
+abbrev pub FailedRead : List (List ℕ) → (List ℕ → Option (List ℕ)) → Option (List ℕ) → ℕ → ℕ → ℕ → Option (List ℕ) → Option (List ℕ) → Type 0
+FailedRead words told failed before now result old new = (settings : Settings) × (settings_of words ≡ Some settings) × FailedFile settings told failed before now result old new
 
 -- all statuses
 abbrev pub statuses : List ℕ

@@ -1,6 +1,7 @@
 -- What texts are: accepted as a program, or refused; and what is answered for them.
 use Rattle.std.specs.Prelude.{◌≡◌, ℕ, ◌+◌, ◌*◌, ◌≤◌, ◌<◌, ◌==◌, ◌⊎◌, Bool, List, [], ◌∷◌, ◌++◌, Option, Some, None, length, max, codes, decimal, IsTrue}
 use Rattle.std.specs.List.{list_any, flat_map}
+use Rattle.std.specs.Option.{option_map_or}
 use Rattle.tel_base.specs.declared.places.Place.{Place}
 use Rattle.tel_base.specs.Bytes.{Appends}
 use Rattle.tel_rule.specs.declared.statements.Program.{Program}
@@ -84,12 +85,16 @@ place_text place = decimal place.file ++ codes ":" ++ position_text place
 abbrev pub line_at : List ℕ → Place → List ℕ
 line_at cause place = codes "error: " ++ cause ++ codes " at " ++ place_text place ++ codes "\n"
 
+-- the cause and the place of a fault of the reader; want of memory has none
+abbrev pub named : ReadFault → Option (List ℕ × Place)
+named (faults.BadByte place) = Some (codes "BadByte", place)
+named (faults.NumberRange place) = Some (codes "NumberRange", place)
+named (faults.TooDeep place) = Some (codes "TooDeep", place)
+named (faults.Syntax place) = Some (codes "Syntax", place)
+named faults.Memory = None
+
 abbrev pub fault_line : ReadFault → List ℕ
-fault_line (faults.BadByte place) = line_at (codes "BadByte") place
-fault_line (faults.NumberRange place) = line_at (codes "NumberRange") place
-fault_line (faults.TooDeep place) = line_at (codes "TooDeep") place
-fault_line (faults.Syntax place) = line_at (codes "Syntax") place
-fault_line faults.Memory = []
+fault_line fault = option_map_or (λ cause. line_at cause.0 cause.1) (named fault) []
 
 abbrev pub unbuilt_line : Place → List ℕ
 unbuilt_line place = line_at (codes "Unbuilt") place

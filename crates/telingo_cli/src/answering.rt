@@ -14,7 +14,7 @@ ghost use Rattle.telingo_cli.specs.Refusals.{DeliversFault, IsPlainFault};
 use crate::grounding::template;
 use crate::naming::TemplateFault;
 use crate::plain::{PlainFault, first_unbuilt};
-use crate::refusing::{Refusal, refuse};
+use crate::refusing::{refuse_at, refuse_large};
 use crate::running::{RunFault, print_run};
 use crate::status::Status;
 use part_syntax::{ReadFault, read};
@@ -105,8 +105,8 @@ fn answer_program<O: Sink>(
 {
     match build(alloc, settings, program) {
         Ok(template) => answer_template(alloc, out, settings, &template),
-        Err(PlainFault::Unbuilt(place)) => refuse(out, Refusal::Unbuilt(place)),
-        Err(PlainFault::Large) => refuse(out, Refusal::Large),
+        Err(PlainFault::Unbuilt(place)) => refuse_at(out, b"Unbuilt", place),
+        Err(PlainFault::Large) => refuse_large(out),
         Err(PlainFault::Memory) => Status::Memory,
     }
 }
@@ -117,10 +117,10 @@ fn answer_fault<O: Sink>(out: &mut O, fault: ReadFault) -> Status
     ensures faults { TellsFaults (code_of result) (O.faults out.old) (O.faults out.new) }
 {
     match fault {
-        ReadFault::BadByte(place) => refuse(out, Refusal::BadByte(place)),
-        ReadFault::NumberRange(place) => refuse(out, Refusal::NumberRange(place)),
-        ReadFault::TooDeep(place) => refuse(out, Refusal::TooDeep(place)),
-        ReadFault::Syntax(place) => refuse(out, Refusal::Syntax(place)),
+        ReadFault::BadByte(place) => refuse_at(out, b"BadByte", place),
+        ReadFault::NumberRange(place) => refuse_at(out, b"NumberRange", place),
+        ReadFault::TooDeep(place) => refuse_at(out, b"TooDeep", place),
+        ReadFault::Syntax(place) => refuse_at(out, b"Syntax", place),
         ReadFault::Memory => Status::Memory,
     }
 }

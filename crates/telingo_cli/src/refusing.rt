@@ -1,138 +1,121 @@
-//! The lines of refusals.
-ghost use Rattle.std.specs.Prelude.{◌≡◌, ℕ, ◌+◌, ◌<◌, ◌^◌, List, ◌++◌, Option, codes, decimal};
-ghost use Rattle.trace_print.specs.Waiting.{Writes};
+//! The one line of a refusal, which goes out in one piece.
+ghost use Rattle.std.specs.Prelude.{◌≡◌, ℕ, ◌+◌, ◌^◌, ◌<◌, ◌≤◌, ◌++◌, [], length, codes, decimal};
 ghost use Rattle.telingo_cli.specs.Delivery.{code_of, Delivers, TellsFaults};
-ghost use Rattle.telingo_cli.specs.Verdict.{position_text, place_text, read_line};
-ghost use Rattle.telingo_cli.specs.Refusals.{refusal_status, refusal_line};
+ghost use Rattle.telingo_cli.specs.Verdict.{usage_line, large_line, line_at, read_line, place_text, position_text};
 
 use crate::status::Status;
+use arrayvec::ArrayVec;
 use itoa::Buffer;
-use tel_base::{Failed, Place, Sink, write_whole};
+use tel_base::{Place, Sink, write_whole};
 
-/// A refusal of words or of texts, with the place of its cause where it has one.
-#[derive(Clone, Copy, Debug, PartialEq, Eq)]
-pub enum Refusal {
-    /// The words are no line of the command.
-    Usage,
-    /// The texts have too many bytes, or too many different names for the greatest length.
-    Large,
-    /// No token begins at this byte, or a string or a block comment that begins there doesn't end.
-    BadByte(Place),
-    /// This number is out of range.
-    NumberRange(Place),
-    /// This token opens too many levels.
-    TooDeep(Place),
-    /// The text stops to be one at this token, or at its end.
-    Syntax(Place),
-    /// The statement with its first token here isn't plain.
-    Unbuilt(Place),
-}
+/// How many bytes a line has at most.
+const ROOM: usize = 128;
 
-impl Refusal {
-    fn status(self) -> Status
-        ensures { code_of result ≡ refusal_status self }
-    {
-        match self {
-            Refusal::Usage => Status::Usage,
-            Refusal::Large => Status::Large,
-            Refusal::BadByte(_)
-            | Refusal::NumberRange(_)
-            | Refusal::TooDeep(_)
-            | Refusal::Syntax(_)
-            | Refusal::Unbuilt(_) => Status::Refused,
-        }
+/// Adds a piece to a line.
+fn push<const SIZE: usize>(line: &mut ArrayVec<u8, SIZE>, piece: &[u8])
+    requires { length line.old.items + length piece.now ≤ SIZE }
+    ensures { line.new.items ≡ line.old.items ++ piece.now }
+{
+    match line.try_extend_from_slice(piece) {
+        Ok(()) => {}
+        Err(_) => unreachable!(),
     }
 }
 
-/// The status after a write that was to end with this one.
-fn after_writing(written: Result<(), Failed>, status: Status) -> Status
-    requires whole { code_of status < 71 }
-    ensures delivers { (bytes : List ℕ) (old new : Option (List ℕ)) (before now : ℕ) → Writes written bytes old new before now
-        → Delivers (code_of result) (code_of status) bytes old new }
-    ensures faults { (bytes : List ℕ) (old new : Option (List ℕ)) (before now : ℕ) → Writes written bytes old new before now
-        → TellsFaults (code_of result) before now }
+/// Adds a number in decimal digits.
+fn push_number<const SIZE: usize>(line: &mut ArrayVec<u8, SIZE>, number: u64)
+    requires { length line.old.items + 20 ≤ SIZE }
+    ensures digits { line.new.items ≡ line.old.items ++ decimal number }
+    ensures short { length line.new.items ≤ length line.old.items + 20 }
 {
-    match written {
+    let mut digits = Buffer::new();
+    push(line, digits.format(number).as_bytes());
+}
+
+/// Adds the line and the byte of a place.
+fn push_position<const SIZE: usize>(line: &mut ArrayVec<u8, SIZE>, place: Place)
+    requires { length line.old.items + 41 ≤ SIZE }
+    ensures position { line.new.items ≡ line.old.items ++ position_text place }
+    ensures short { length line.new.items ≤ length line.old.items + 41 }
+{
+    push_number(line, u64::from(place.line));
+    push(line, b":");
+    push_number(line, u64::from(place.at));
+}
+
+/// Adds a place.
+fn push_place<const SIZE: usize>(line: &mut ArrayVec<u8, SIZE>, place: Place)
+    requires { length line.old.items + 62 ≤ SIZE }
+    ensures place { line.new.items ≡ line.old.items ++ place_text place }
+    ensures short { length line.new.items ≤ length line.old.items + 62 }
+{
+    push_number(line, u64::from(place.file));
+    push(line, b":");
+    push_position(line, place);
+}
+
+/// Fills a line with a cause and a place.
+fn fill_at<const SIZE: usize>(line: &mut ArrayVec<u8, SIZE>, cause: &[u8], place: Place)
+    requires empty { line.old.items ≡ [] }
+    requires room { length cause.now + 74 ≤ SIZE }
+    ensures { line.new.items ≡ line_at cause.now place }
+{
+    push(line, b"error: ");
+    push(line, cause);
+    push(line, b" at ");
+    push_place(line, place);
+    push(line, b"\n");
+}
+
+/// Fills a line for a failed read of the file word at this place, from 0.
+fn fill_read<const SIZE: usize>(line: &mut ArrayVec<u8, SIZE>, place: usize)
+    requires empty { line.old.items ≡ [] }
+    requires room { 33 ≤ SIZE }
+    requires place { place < 2 ^ 63 }
+    ensures { line.new.items ≡ read_line place }
+{
+    push(line, b"error: read ");
+    push_number(line, place as u64 + 1);
+    push(line, b"\n");
+}
+
+/// Writes a line, and answers this status or that of a failed write.
+fn refuse<O: Sink>(out: &mut O, line: &[u8], status: Status) -> Status
+    requires { code_of status < 71 }
+    ensures delivers { Delivers (code_of result) (code_of status) line.now (O.bytes out.old) (O.bytes out.new) }
+    ensures faults { TellsFaults (code_of result) (O.faults out.old) (O.faults out.new) }
+{
+    match write_whole(out, line) {
         Ok(()) => status,
         Err(_) => Status::Write,
     }
 }
 
-/// Writes a line, or a part of one.
-fn write_line<O: Sink>(out: &mut O, line: &[u8]) -> Result<(), Failed>
-    ensures { Writes result line.now (O.bytes out.old) (O.bytes out.new) (O.faults out.old) (O.faults out.new) }
-{
-    write_whole(out, line)
-}
-
-/// Writes a number in decimal digits, and what stands behind it.
-fn write_number<O: Sink>(out: &mut O, number: u64, behind: &[u8]) -> Result<(), Failed>
-    ensures { Writes result (decimal number ++ behind.now) (O.bytes out.old) (O.bytes out.new) (O.faults out.old) (O.faults out.new) }
-{
-    let mut digits = Buffer::new();
-    match write_line(out, digits.format(number).as_bytes()) {
-        Ok(()) => write_line(out, behind),
-        Err(fault) => Err(fault),
-    }
-}
-
-/// Writes the line and the byte of a place, and what stands behind them.
-fn write_position<O: Sink>(out: &mut O, place: Place, behind: &[u8]) -> Result<(), Failed>
-    ensures { Writes result (position_text place ++ behind.now) (O.bytes out.old) (O.bytes out.new) (O.faults out.old) (O.faults out.new) }
-{
-    match write_number(out, u64::from(place.line), b":") {
-        Ok(()) => write_number(out, u64::from(place.at), behind),
-        Err(fault) => Err(fault),
-    }
-}
-
-/// Writes a line with a place at its end.
-fn write_at<O: Sink>(out: &mut O, front: &[u8], place: Place) -> Result<(), Failed>
-    ensures { Writes result (front.now ++ place_text place ++ codes "\n") (O.bytes out.old) (O.bytes out.new) (O.faults out.old) (O.faults out.new) }
-{
-    match write_line(out, front) {
-        Ok(()) => {}
-        Err(fault) => return Err(fault),
-    }
-    match write_number(out, u64::from(place.file), b":") {
-        Ok(()) => write_position(out, place, b"\n"),
-        Err(fault) => Err(fault),
-    }
-}
-
-/// Writes the line of a refusal.
-fn write_refusal<O: Sink>(out: &mut O, refusal: Refusal) -> Result<(), Failed>
-    ensures { Writes result (refusal_line refusal) (O.bytes out.old) (O.bytes out.new) (O.faults out.old) (O.faults out.new) }
-{
-    match refusal {
-        Refusal::Usage => write_line(out, b"error: usage\n"),
-        Refusal::Large => write_line(out, b"error: large\n"),
-        Refusal::BadByte(place) => write_at(out, b"error: BadByte at ", place),
-        Refusal::NumberRange(place) => write_at(out, b"error: NumberRange at ", place),
-        Refusal::TooDeep(place) => write_at(out, b"error: TooDeep at ", place),
-        Refusal::Syntax(place) => write_at(out, b"error: Syntax at ", place),
-        Refusal::Unbuilt(place) => write_at(out, b"error: Unbuilt at ", place),
-    }
-}
-
-/// Prints the line of a refusal.
-pub fn refuse<O: Sink>(out: &mut O, refusal: Refusal) -> Status
-    ensures delivers { Delivers (code_of result) (refusal_status refusal) (refusal_line refusal) (O.bytes out.old) (O.bytes out.new) }
+/// Answers words that are no line of the command.
+pub fn refuse_usage<O: Sink>(out: &mut O) -> Status
+    ensures delivers { Delivers (code_of result) 64 usage_line (O.bytes out.old) (O.bytes out.new) }
     ensures faults { TellsFaults (code_of result) (O.faults out.old) (O.faults out.new) }
 {
-    let written = write_refusal(out, refusal);
-    after_writing(written, refusal.status())
+    refuse(out, b"error: usage\n", Status::Usage)
 }
 
-/// Writes the line of a failed read of the file word at this place, from 0.
-fn write_read_line<O: Sink>(out: &mut O, place: usize) -> Result<(), Failed>
-    requires { place < 2 ^ 63 }
-    ensures { Writes result (read_line place) (O.bytes out.old) (O.bytes out.new) (O.faults out.old) (O.faults out.new) }
+/// Answers texts that have too many bytes, or whose program has too many names for the greatest length.
+pub fn refuse_large<O: Sink>(out: &mut O) -> Status
+    ensures delivers { Delivers (code_of result) 69 large_line (O.bytes out.old) (O.bytes out.new) }
+    ensures faults { TellsFaults (code_of result) (O.faults out.old) (O.faults out.new) }
 {
-    match write_line(out, b"error: read ") {
-        Ok(()) => write_number(out, place as u64 + 1, b"\n"),
-        Err(fault) => Err(fault),
-    }
+    refuse(out, b"error: large\n", Status::Large)
+}
+
+/// Answers texts that are refused for this cause, at this place.
+pub fn refuse_at<O: Sink>(out: &mut O, cause: &[u8], place: Place) -> Status
+    requires { length cause.now ≤ 16 }
+    ensures delivers { Delivers (code_of result) 65 (line_at cause.now place) (O.bytes out.old) (O.bytes out.new) }
+    ensures faults { TellsFaults (code_of result) (O.faults out.old) (O.faults out.new) }
+{
+    let mut line: ArrayVec<u8, ROOM> = ArrayVec::new();
+    fill_at(&mut line, cause, place);
+    refuse(out, line.as_slice(), Status::Refused)
 }
 
 /// Answers a failed read of the file word at this place, from 0.
@@ -141,6 +124,7 @@ pub fn refuse_read<O: Sink>(out: &mut O, place: usize) -> Status
     ensures delivers { Delivers (code_of result) 66 (read_line place) (O.bytes out.old) (O.bytes out.new) }
     ensures faults { TellsFaults (code_of result) (O.faults out.old) (O.faults out.new) }
 {
-    let written = write_read_line(out, place);
-    after_writing(written, Status::Read)
+    let mut line: ArrayVec<u8, ROOM> = ArrayVec::new();
+    fill_read(&mut line, place);
+    refuse(out, line.as_slice(), Status::Read)
 }

@@ -1,18 +1,16 @@
 //! The top call: from the words to the printed bytes.
-ghost use Rattle.std.specs.Prelude.{◌≡◌, ℕ, ◌<◌, ◌≤◌, List, [], ◌∷◌, Option, length, IsTrue, Some, None};
-ghost use Rattle.tel_base.specs.Bytes.{Appends};
+ghost use Rattle.std.specs.Prelude.{◌≡◌, ℕ, ◌<◌, ◌≤◌, List, [], ◌∷◌, Option, length, map, IsTrue, Some, None};
 ghost use Rattle.tel_base.specs.Counts.{Rose, Stands};
 ghost use Rattle.tel_rule.specs.declared.statements.Program.{Program};
 ghost use Rattle.tel_settings.specs.declared.fields.Settings.{Settings};
 ghost use Rattle.tel_settings.specs.Command.{settings_of, IsWithinLimits};
-ghost use Rattle.telingo_cli.specs.Texts.{AreWhole};
 ghost use Rattle.telingo_cli.specs.Delivery.{code_of, Delivers, TellsFaults};
-ghost use Rattle.telingo_cli.specs.Verdict.{Verdict, Accepted, IsVerdict, status_of, output_of, TellsOfText, usage_line, read_line, is_among};
-ghost use Rattle.telingo_cli.specs.Top.{words_of, files_of, AreTextsOf, AnswersSome, AnswersWords, FailsWith, FailedRead, DeliversFailedRead, KeepsReading, statuses};
+ghost use Rattle.telingo_cli.specs.Verdict.{Verdict, Accepted, IsVerdict, status_of, output_of, TellsOfText, usage_line, is_among};
+ghost use Rattle.telingo_cli.specs.Top.{words_of, files_of, AreTextsOf, AnswersSome, AnswersWords, FailedFile, FailedRead, KeepsReading, statuses};
 
 use crate::answering::answer;
 use crate::files::{FilesFault, read_files};
-use crate::refusing::{Refusal, refuse, refuse_read};
+use crate::refusing::{refuse_large, refuse_read, refuse_usage};
 use crate::status::Status;
 use std::alloc::Global;
 use tel_base::{Sink, Source};
@@ -36,11 +34,11 @@ fn answer_files<S: Source, O: Sink>(
     out: &mut O,
 ) -> Status
     requires { IsWithinLimits settings.now }
-    ensures delivers { (whole : List (List ℕ)) (verdict : Verdict) → AreWhole (S.text texts.old) (files_of settings.now) whole → Stands (S.faults texts.old) (S.faults texts.new) → IsVerdict settings.now whole verdict
+    ensures delivers { (whole : List (List ℕ)) (verdict : Verdict) → map (S.text texts.old) (files_of settings.now) ≡ map Some whole → Stands (S.faults texts.old) (S.faults texts.new) → IsVerdict settings.now whole verdict
         → Delivers (code_of result) (status_of settings.now verdict) (output_of settings.now verdict) (O.bytes out.old) (O.bytes out.new) }
     ensures answers { TellsOfText (code_of result) → AnswersSome settings.now (S.text texts.old) (code_of result) (O.bytes out.old) (O.bytes out.new) }
-    ensures read { S.faults texts.old < S.faults texts.new → FailsWith (λ place. Delivers (code_of result) 66 (read_line place) (O.bytes out.old) (O.bytes out.new)) settings.now (S.text texts.old) (S.failed texts.new) (S.faults texts.old) (S.faults texts.new) }
-    ensures read_only { code_of result ≡ 66 → FailsWith (λ place. Appends (O.bytes out.old) (O.bytes out.new) (read_line place)) settings.now (S.text texts.old) (S.failed texts.new) (S.faults texts.old) (S.faults texts.new) }
+    ensures read { S.faults texts.old < S.faults texts.new → FailedFile settings.now (S.text texts.old) (S.failed texts.new) (S.faults texts.old) (S.faults texts.new) (code_of result) (O.bytes out.old) (O.bytes out.new) }
+    ensures read_only { code_of result ≡ 66 → FailedFile settings.now (S.text texts.old) (S.failed texts.new) (S.faults texts.old) (S.faults texts.new) (code_of result) (O.bytes out.old) (O.bytes out.new) }
     ensures read_stands { TellsOfText (code_of result) → S.faults texts.new ≡ S.faults texts.old }
     ensures texts { (word : List ℕ) → S.text texts.new word ≡ S.text texts.old word }
     ensures faults { TellsFaults (code_of result) (O.faults out.old) (O.faults out.new) }
@@ -48,7 +46,7 @@ fn answer_files<S: Source, O: Sink>(
 {
     match read_files(alloc, texts, files(settings)) {
         Ok(read) => answer(alloc, out, settings, read.as_slice()),
-        Err(FilesFault::Large) => refuse(out, Refusal::Large),
+        Err(FilesFault::Large) => refuse_large(out),
         Err(FilesFault::Read(place)) => refuse_read(out, place),
         Err(FilesFault::Memory) => Status::Memory,
     }
@@ -66,15 +64,15 @@ fn answer_words<S: Source, O: Sink>(
     ensures delivers { (settings : Settings) (whole : List (List ℕ)) (verdict : Verdict) → AreTextsOf (words_of words.now) (S.text texts.old) settings whole → Stands (S.faults texts.old) (S.faults texts.new) → IsVerdict settings whole verdict
         → Delivers (code_of result) (status_of settings verdict) (output_of settings verdict) (O.bytes out.old) (O.bytes out.new) }
     ensures answers { TellsOfText (code_of result) → AnswersWords (words_of words.now) (S.text texts.old) (code_of result) (O.bytes out.old) (O.bytes out.new) }
-    ensures read { S.faults texts.old < S.faults texts.new → DeliversFailedRead (words_of words.now) (S.text texts.old) (S.failed texts.new) (S.faults texts.old) (S.faults texts.new) (code_of result) (O.bytes out.old) (O.bytes out.new) }
-    ensures read_only { code_of result ≡ 66 → FailedRead (words_of words.now) (S.text texts.old) (S.failed texts.new) (S.faults texts.old) (S.faults texts.new) (O.bytes out.old) (O.bytes out.new) }
+    ensures read { S.faults texts.old < S.faults texts.new → FailedRead (words_of words.now) (S.text texts.old) (S.failed texts.new) (S.faults texts.old) (S.faults texts.new) (code_of result) (O.bytes out.old) (O.bytes out.new) }
+    ensures read_only { code_of result ≡ 66 → FailedRead (words_of words.now) (S.text texts.old) (S.failed texts.new) (S.faults texts.old) (S.faults texts.new) (code_of result) (O.bytes out.old) (O.bytes out.new) }
     ensures read_stands { KeepsReading (code_of result) → S.faults texts.new ≡ S.faults texts.old }
     ensures texts { (word : List ℕ) → S.text texts.new word ≡ S.text texts.old word }
     ensures faults { TellsFaults (code_of result) (O.faults out.old) (O.faults out.new) }
 {
     match settings(alloc, words) {
         Ok(settings) => answer_files(alloc, &settings, texts, out),
-        Err(SettingsFault::Usage) => refuse(out, Refusal::Usage),
+        Err(SettingsFault::Usage) => refuse_usage(out),
         Err(SettingsFault::Memory) => Status::Memory,
     }
 }
@@ -110,8 +108,8 @@ pub fn telingo<S: Source, O: Sink, L: Sink>(
         → IsTrue (is_among (10 ∷ 20 ∷ 71 ∷ []) result) }
 
     // A read that failed is delivered as such, 66 comes only with one, and with 10, 20, 64, 65 and 69 none failed.
-    ensures read { S.faults texts.old < S.faults texts.new → DeliversFailedRead (words_of words.now) (S.text texts.old) (S.failed texts.new) (S.faults texts.old) (S.faults texts.new) result (O.bytes out.old) (O.bytes out.new) }
-    ensures read_only { result ≡ 66 → FailedRead (words_of words.now) (S.text texts.old) (S.failed texts.new) (S.faults texts.old) (S.faults texts.new) (O.bytes out.old) (O.bytes out.new) }
+    ensures read { S.faults texts.old < S.faults texts.new → FailedRead (words_of words.now) (S.text texts.old) (S.failed texts.new) (S.faults texts.old) (S.faults texts.new) result (O.bytes out.old) (O.bytes out.new) }
+    ensures read_only { result ≡ 66 → FailedRead (words_of words.now) (S.text texts.old) (S.failed texts.new) (S.faults texts.old) (S.faults texts.new) result (O.bytes out.old) (O.bytes out.new) }
     ensures no_read { KeepsReading result → S.faults texts.new ≡ S.faults texts.old }
 
     // 74 comes only where a write failed, and with every other status none did.

@@ -18,4 +18,4 @@ returns-in-Err-Unbuilt-clause-unbuilt g c = λ place is.
     let fault = subst (λ (f : PlainFault). IsPlainFault c.args.settings.now c.args.program.now f) c.in-Err-Unbuilt.field-0-is c.in-Err-Unbuilt.ensures.fault in
     let there : Some c.in-Err-Unbuilt.place ≡ Some place = cc in
     let same : c.in-Err-Unbuilt.place ≡ place = cc in
-    subst (λ (p : Place). Delivers (code_of c.refuse.result) 65 (unbuilt_line p) (g.O.Sink.bytes c.args.out.now) (g.O.Sink.bytes c.refuse.new.out)) (c.in-Err-Unbuilt.place-is ∙ same) c.refuse.ensures.delivers
+    subst (λ (p : Place). Delivers (code_of c.refuse_at.result) 65 (unbuilt_line p) (g.O.Sink.bytes c.args.out.now) (g.O.Sink.bytes c.refuse_at.new.out)) (c.in-Err-Unbuilt.place-is ∙ same) c.refuse_at.ensures.delivers

@@ -1,12 +1,12 @@
 use Rattle.std.proofs.Common.{ℕ, ◌<◌, List, length, ap, sym, ◌∙◌, subst, arith}
 use Rattle.part_syntax.specs.Programs.{total_bytes}
 use Rattle.telingo_cli.specs.Reading.{largest_text}
-use Rattle.telingo_cli.specs.Texts.{AreTold, FailedAt, first_place}
+use Rattle.telingo_cli.specs.Texts.{AreTold, FailedAt}
 use Rattle.telingo_cli.specs.Delivery.{code_of, Delivers}
 use Rattle.telingo_cli.specs.Verdict.{IsVerdict, read_line}
 use Rattle.telingo_cli.specs.Top.{files_of}
 use Rattle.telingo_cli.proofs.TextSteps.{told-length, few_files, whole-told}
-use Rattle.telingo_cli.proofs.Verdicts.{long-delivers, delivered-read}
+use Rattle.telingo_cli.proofs.Verdicts.{long-delivers}
 use Rattle.telingo_cli.proofs.top.answer_files.Goals as goal
 
 pub answer-requires-clause-few : goal.answer-requires-clause-few
@@ -25,8 +25,8 @@ returns-in-Err-Large-clause-delivers g c = λ whole verdict told _ is.
     let long = c.in-Err-Large.ensures.large c.in-Err-Large.field-0-is in
     let read = subst (λ (names : List (List ℕ)). AreTold (g.S.Source.text c.args.texts.now) names long.0) c.files.ensures long.1 in
     let same = whole-told (g.S.Source.text c.args.texts.now) (files_of c.args.settings.now) whole long.0 told read in
-    long-delivers (λ status bytes. Delivers (code_of c.refuse.result) status bytes (g.O.Sink.bytes c.args.out.now) (g.O.Sink.bytes c.refuse.new.out)) c.args.settings.now whole
-    (subst (λ (texts : List (List ℕ)). largest_text < total_bytes texts) (sym same) long.2) c.refuse.ensures.delivers verdict is
+    long-delivers (λ status bytes. Delivers (code_of c.refuse_large.result) status bytes (g.O.Sink.bytes c.args.out.now) (g.O.Sink.bytes c.refuse_large.new.out)) c.args.settings.now whole
+    (subst (λ (texts : List (List ℕ)). largest_text < total_bytes texts) (sym same) long.2) c.refuse_large.ensures.delivers verdict is
 
 pub returns-in-Err-Read-clause-read : goal.returns-in-Err-Read-clause-read
 returns-in-Err-Read-clause-read g c = λ _.
@@ -35,8 +35,7 @@ returns-in-Err-Read-clause-read g c = λ _.
     (failed.0, failed.1, subst (λ (place : ℕ). Delivers (code_of c.refuse_read.result) 66 (read_line place) (g.O.Sink.bytes c.args.out.now) (g.O.Sink.bytes c.refuse_read.new.out)) (c.in-Err-Read.place-is ∙ failed.2) c.refuse_read.ensures.delivers)
 
 pub returns-in-Err-Read-clause-read_only : goal.returns-in-Err-Read-clause-read_only
-returns-in-Err-Read-clause-read_only g c = λ is.
+returns-in-Err-Read-clause-read_only g c = λ _.
     let failed = subst (λ (names : List (List ℕ)). FailedAt names (g.S.Source.text c.args.texts.now) (g.S.Source.failed c.read_files.new.texts) (g.S.Source.faults c.args.texts.now) (g.S.Source.faults c.read_files.new.texts) c.in-Err-Read.place) c.files.ensures
     (c.in-Err-Read.ensures.read_only c.in-Err-Read.place c.in-Err-Read.field-0-is) in
-    let printed = subst (λ (place : ℕ). Delivers (code_of c.refuse_read.result) 66 (read_line place) (g.O.Sink.bytes c.args.out.now) (g.O.Sink.bytes c.refuse_read.new.out)) (c.in-Err-Read.place-is ∙ failed.2) c.refuse_read.ensures.delivers in
-    (failed.0, failed.1, delivered-read (code_of c.refuse_read.result) (read_line (first_place (files_of c.args.settings.now) failed.0)) (g.O.Sink.bytes c.args.out.now) (g.O.Sink.bytes c.refuse_read.new.out) is printed)
+    (failed.0, failed.1, subst (λ (place : ℕ). Delivers (code_of c.refuse_read.result) 66 (read_line place) (g.O.Sink.bytes c.args.out.now) (g.O.Sink.bytes c.refuse_read.new.out)) (c.in-Err-Read.place-is ∙ failed.2) c.refuse_read.ensures.delivers)
