@@ -1,8 +1,17 @@
-//! A law of the definitions: a function that does nothing, whose contract is a proved fact.
+//! Laws of the definitions: functions that do nothing, whose contracts are proved facts.
+ghost use Rattle.std.specs.Prelude.{ℕ, List};
+ghost use Rattle.tel_settings.specs.declared.fields.Settings.{Settings};
 ghost use Rattle.telingo_cli.specs.Meaning.{TemplatesMeanStatements};
+ghost use Rattle.telingo_cli.specs.Verdict.{Verdict, IsVerdict};
 
 /// The theory of the template of plain statements is what they demand: each is a formula, read off
 /// the statement without nodes, demanded at the instants of its part.
 pub fn statements()
     ensures { TemplatesMeanStatements }
+{}
+
+/// Each list of texts has a verdict: it is accepted, refused for a fault or for a statement that isn't plain, or too large. So the
+/// clauses `answer` and `complete` of `telingo` speak of all texts.
+pub fn some_verdict()
+    ensures { (settings : Settings) (texts : List (List ℕ)) → (verdict : Verdict) × IsVerdict settings texts verdict }
 {}

@@ -14,6 +14,6 @@ mod running;
 mod status;
 mod top;
 
-pub use laws::statements;
+pub use laws::{some_verdict, statements};
 pub use status::Status;
 pub use top::telingo;
