@@ -15,6 +15,3 @@ mod words;
 pub use fault::ReadFault;
 pub use laws::one_program;
 pub use reader::read;
-
-#[cfg(test)]
-mod tests;
