@@ -17,7 +17,8 @@ use Rattle.tel_semantics.specs.Formula.{Formula, atoms_below}
 use Rattle.tel_semantics.specs.NodeFormula.{op_formula, node_formula, kid_formula, binary_formula}
 use Rattle.tel_semantics.specs.Satisfaction.{sat}
 use Rattle.tel_semantics.proofs.Members.{In, In-list_all}
-use Rattle.tel_semantics.proofs.NodeLaws.{IsNodeAt, node_at}
+use Rattle.tel_semantics.specs.Walking.{IsNodeAt}
+use Rattle.tel_semantics.proofs.NodeLaws.{node_at}
 use Rattle.tel_semantics.proofs.InRange.{node_below}
 use Rattle.tel_semantics.proofs.SatLaws.{sat-persists}
 use Rattle.tel_semantics.proofs.Expansions.{same_truth}

@@ -8,8 +8,6 @@ mod judging;
 mod laws;
 mod listing;
 mod satisfying;
-#[cfg(test)]
-mod tests;
 mod walking;
 
 pub use ends::How;
