@@ -24,13 +24,13 @@ use Rattle.atom_space.specs.Numbers.{width}
 use Rattle.formula_unfold.specs.Nodes.{counts_of}
 use Rattle.stable_models.specs.Laws.{full_of}
 
-abbrev atom : ℕ → GroundAtom
+abbrev pub atom : ℕ → GroundAtom
 atom name = record { negative = false; name = name; args = [] }
 
-abbrev program : List GroundAtom → List (ℕ × ℕ) → List Node → List Instance → Ground
+abbrev pub program : List GroundAtom → List (ℕ × ℕ) → List Node → List Instance → Ground
 program atoms pairs nodes instances = record { symbols = []; atoms = atoms; pairs = pairs; nodes = nodes; instances = instances; show = shows.All }
 
-abbrev instance : Part → GroundHead → List BodyLit → Instance
+abbrev pub instance : Part → GroundHead → List BodyLit → Instance
 instance part head body = record { statement = 0; part = part; head = head; body = body }
 
 abbrev now : ℕ → BodyLit
@@ -49,7 +49,7 @@ abbrev fails : ℕ → BodyLit
 fails x = record { positive = false; item = items.Node x }
 
 -- the true variables of the set of each model of a length
-abbrev sets_of : Ground → ℕ → List (List ℕ)
+abbrev pub sets_of : Ground → ℕ → List (List ℕ)
 sets_of p n = map (λ (trace : List (List ℕ)). filter (full_of p n trace) (range_with_len 0 ((n) * width (counts_of p)))) (list_of p n)
 
 -- ---- a positive loop through two states: p :- &tel { >? q }. #program dynamic. q :- 'p.
@@ -66,6 +66,10 @@ loop-1 = refl
 loop-2 : sets_of loop 2 ≡ (11 ∷ []) ∷ []
 unfolding node_formula
 loop-2 = refl
+
+loop-3 : sets_of loop 3 ≡ (17 ∷ []) ∷ []
+unfolding node_formula
+loop-3 = refl
 
 -- ---- a choice: {a}. at the first state
 
@@ -91,6 +95,9 @@ primed-1 = refl
 
 primed-2 : sets_of primed 2 ≡ (9 ∷ []) ∷ (0 ∷ 6 ∷ 9 ∷ []) ∷ []
 primed-2 = refl
+
+primed-3 : sets_of primed 3 ≡ (14 ∷ []) ∷ (0 ∷ 6 ∷ 14 ∷ []) ∷ []
+primed-3 = refl
 
 -- ---- a primed choice: {a'}. at every state, which at the last one says nothing
 
@@ -133,6 +140,10 @@ twice-2 : sets_of twice 2 ≡ (1 ∷ 5 ∷ 7 ∷ []) ∷ (0 ∷ 5 ∷ 7 ∷ []) 
 unfolding node_formula
 twice-2 = refl
 
+twice-3 : sets_of twice 3 ≡ (1 ∷ 5 ∷ 9 ∷ 11 ∷ []) ∷ (0 ∷ 5 ∷ 9 ∷ 11 ∷ []) ∷ []
+unfolding node_formula
+twice-3 = refl
+
 -- ---- strong negation: {a}. {-a}. at the first state
 
 abbrev strong : Ground
@@ -145,6 +156,23 @@ strong-1 = refl
 
 strong-2 : sets_of strong 2 ≡ (9 ∷ []) ∷ (1 ∷ 9 ∷ []) ∷ (0 ∷ 9 ∷ []) ∷ []
 strong-2 = refl
+
+strong-3 : sets_of strong 3 ≡ (14 ∷ []) ∷ (1 ∷ 14 ∷ []) ∷ (0 ∷ 14 ∷ []) ∷ []
+strong-3 = refl
+
+-- ---- a loop through negations: a :- not b. b :- not a. at the first state
+
+abbrev either : Ground
+either = program (atom 0 ∷ atom 1 ∷ []) [] [] (instance parts.Initial (heads.Normal 0 false) (no_now 1 ∷ []) ∷ instance parts.Initial (heads.Normal 1 false) (no_now 0 ∷ []) ∷ [])
+
+either-1 : sets_of either 1 ≡ (1 ∷ 4 ∷ []) ∷ (0 ∷ 4 ∷ []) ∷ []
+either-1 = refl
+
+either-2 : sets_of either 2 ≡ (1 ∷ 9 ∷ []) ∷ (0 ∷ 9 ∷ []) ∷ []
+either-2 = refl
+
+either-3 : sets_of either 3 ≡ (1 ∷ 14 ∷ []) ∷ (0 ∷ 14 ∷ []) ∷ []
+either-3 = refl
 
 -- ---- an until: {b}. at every state, a :- &tel { &true until b }. at the first one
 
@@ -166,7 +194,7 @@ until-2 : sets_of until 2 ≡ (3 ∷ 10 ∷ 13 ∷ [])
 unfolding node_formula
 until-2 = refl
 
--- ---- past and future in one: {a}. at the first state, and at the last one :- not &tel { <? > a }, for a true at the second state or later
+-- ---- past and future in one: {a}. at every state, and at the last one :- not &tel { <? > a }, for a true at the second state or later
 
 abbrev mixed : Ground
 mixed =

@@ -15,3 +15,4 @@ pub mod ModuleRules
 pub mod LawProofs
 pub mod Examples
 pub mod BodyValues
+pub mod OperatorSets
