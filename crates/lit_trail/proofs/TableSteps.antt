@@ -1,14 +1,14 @@
 -- One literal more on the trail, or one less.
 use Rattle.std.proofs.Common.{◌≡◌, ℕ, zero, suc, ◌+◌, ◌-◌, ◌<◌, ◌≤◌, List, [], ◌∷◌, ◌++◌, map, reverse, length, get_or, set, replicate, refl, sym, ap, subst, ◌∙◌, ⊎_elim, arith, get_or-set_other, get_or-set_same}
 use Rattle.std.proofs.lemmas.List.{length-append, length-replicate, length-set, length-reverse, reverse-append, reverse-reverse, get_or-reverse}
-use Rattle.std.specs.Prelude.{Option, Some, None, ◌==◌}
+use Rattle.std.specs.Prelude.{Option, Some, None, ◌==◌, min, is_some}
 use Rattle.std.proofs.lemmas.Bool.{eq-eqb, ne_eqb, cases_eq, cond-true, cond-false}
 use Rattle.tel_base.specs.declared.literals.Lit.{Lit}
 use Rattle.clause_store.specs.declared.store.ClauseId.{ClauseId}
 use Rattle.lit_trail.specs.declared.assignment.Spot.{Spot}
 use Rattle.lit_trail.specs.declared.assignment.Entry.{Entry}
 use Rattle.lit_trail.specs.Entries.{Assigned, spot_in, spot_of, Apart, top_level, tail}
-use Rattle.lit_trail.specs.Table.{level_or, entry_with, entries_of, assigned_of, free_in, InStep}
+use Rattle.lit_trail.specs.Table.{level_or, entry_with, entries_of, assigned_of, free_in, InStep, IsSettled}
 
 -- a variable that isn't there isn't the first, and isn't further on
 pub not_here : (entry : Entry) (older : List Entry) (v : ℕ) → spot_in (entry ∷ older) v ≡ None → (entry.lit.var ≡ v → ⊥) × (spot_in older v ≡ None)
@@ -223,3 +223,21 @@ grow_step table order count step =
       apart = subst Apart (sym same) step.apart;
       room = omega (arith, room, free, longer, added);
     }
+
+-- ---- the variables that have a value
+
+settled-set : (table : List (Option Spot)) (count v : ℕ) (spot : Spot) → v < length table → IsSettled table count → IsSettled (set table v (Some spot)) count
+settled-set table count v spot l settled u below =
+    ⊎_elim (λ (e : v ≡ u). ap (λ (k : ℕ). is_some (get_or (set table v (Some spot)) k None)) (sym e) ∙ ap is_some (get_or-set_same table v (Some spot) None l)) (λ ne. ap is_some (get_or-set_other table v u (Some spot) None (λ e. ne (sym e))) ∙ settled u below) (cases_eq v u)
+
+pub settled-put : (table : List (Option Spot)) (count v : ℕ) (spot : Spot) (view : Assigned) (order : List Lit) → assigned_of table order ≡ view → v < view.vars → IsSettled table count → IsSettled (set table v (Some spot)) count
+settled-put table count v spot view order is l settled =
+    settled-set table count v spot (subst (λ (w : Assigned). v < w.vars) (sym is) l) settled
+
+pub settled-pop : (table : List (Option Spot)) (count v least : ℕ) → least ≡ min count v → IsSettled table count → IsSettled (set table v None) least
+settled-pop table count v least e settled u below =
+    ap is_some (get_or-set_other table v u None None (λ same. absurd (omega (arith, same, e, below)))) ∙ settled u (omega (arith, e, below))
+
+pub settled-grow : (table new : List (Option Spot)) (more count : ℕ) → new ≡ table ++ replicate more None → IsSettled table count → IsSettled new count
+settled-grow table new more count is settled u below =
+    ap (λ (xs : List (Option Spot)). is_some (get_or xs u None)) is ∙ ap is_some (get_or-more table more u) ∙ settled u below

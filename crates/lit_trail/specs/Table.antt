@@ -1,5 +1,5 @@
 -- The table of a trail is kept in step with its order.
-use Rattle.std.specs.Prelude.{◌≡◌, ℕ, suc, ◌+◌, List, [], ◌∷◌, reverse, length, slice_index_or, Option, Some, None}
+use Rattle.std.specs.Prelude.{◌≡◌, ℕ, suc, ◌+◌, ◌<◌, List, [], ◌∷◌, reverse, length, slice_index_or, Option, Some, None, is_some, IsTrue}
 use Rattle.tel_base.specs.declared.literals.Lit.{Lit}
 use Rattle.lit_trail.specs.declared.assignment.Spot.{Spot}
 use Rattle.lit_trail.specs.declared.assignment.Entry.{Entry}
@@ -29,3 +29,7 @@ pub record InStep (table : List (Option Spot)) (order : List Lit) : Type 0 where
   pub said : (v : ℕ) → slice_index_or table v None ≡ spot_in (entries_of table (reverse order)) v
   pub apart : Apart (entries_of table (reverse order))
   pub room : length order + free_in table ≡ length table
+
+-- each variable below the number has a value
+abbrev pub IsSettled : List (Option Spot) → ℕ → Type 0
+IsSettled table count = (v : ℕ) → v < count → IsTrue (is_some (slice_index_or table v None))

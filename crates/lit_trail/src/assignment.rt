@@ -1,6 +1,6 @@
 //! Which literals hold, in order, and what is known of each variable.
 
-ghost use Rattle.std.specs.Prelude.{◌≡◌, ℕ, ◌+◌, ◌<◌, ◌≤◌, [], ◌∷◌, ◌++◌, map, max, replicate, reverse, Some, None, length, vec_capacity, OnOk, OnErr};
+ghost use Rattle.std.specs.Prelude.{◌≡◌, ℕ, ◌+◌, ◌<◌, ◌≤◌, [], ◌∷◌, ◌++◌, map, max, replicate, reverse, Some, None, length, vec_capacity, slice_index_or, is_some, IsTrue, OnOk, OnErr};
 ghost use Rattle.lit_trail.specs.Entries.{spot_in, top_level, tail};
 
 use clause_store::ClauseId;
@@ -31,18 +31,20 @@ pub struct Spot {
 pub struct Assignment {
     order: Vec<Lit>,
     table: Vec<Option<Spot>>,
+    // each variable below this number has a value
+    settled: usize,
 }
 
 impl Model for Assignment {
     ghost use Rattle.std.specs.Prelude.{length, vec_capacity, ◌≤◌};
     ghost use Rattle.lit_trail.specs.Entries.{Assigned};
-    ghost use Rattle.lit_trail.specs.Table.{assigned_of, InStep};
+    ghost use Rattle.lit_trail.specs.Table.{assigned_of, InStep, IsSettled};
 
     ghost Value = { Assigned };
 
     ghost view = { λ assignment. assigned_of assignment.table.items assignment.order.items };
 
-    ghost invariant = { λ assignment. InStep assignment.table.items assignment.order.items × (length assignment.table.items ≤ vec_capacity assignment.order) };
+    ghost invariant = { λ assignment. InStep assignment.table.items assignment.order.items × (length assignment.table.items ≤ vec_capacity assignment.order) × IsSettled assignment.table.items assignment.settled };
 }
 
 impl Assignment {
@@ -54,6 +56,7 @@ impl Assignment {
         Assignment {
             order: Vec::new(alloc),
             table: Vec::new(alloc),
+            settled: 0,
         }
     }
 
@@ -100,8 +103,35 @@ impl Assignment {
         let _count = self.order.len();
     }
 
+    /// A number below which each variable has a value.
+    pub fn settled(&self) -> usize
+        ensures { (var : ℕ) → var < result → IsTrue (is_some (spot_in self.now.entries var)) }
+    {
+        self.settled
+    }
+
+    /// Looks for the first variable from `settled` on that has no value.
+    fn settle(&mut self)
+        ensures { self.new ≡ self.old }
+    {
+        let settled = first_none(&self.table, self.settled);
+        self.settled = settled;
+    }
+
     /// Puts a literal with its level and reason at the end.
     pub fn put(&mut self, lit: Lit, level: u32, reason: Option<ClauseId>)
+        requires free { spot_in self.old.entries lit.var ≡ None }
+        requires within { lit.var < self.old.vars }
+        ensures entries { self.new.entries ≡ record { lit = lit; level = level; reason = reason } ∷ self.old.entries }
+        ensures vars { self.new.vars ≡ self.old.vars }
+        ensures room { length self.new.entries ≤ self.new.vars }
+    {
+        self.append(lit, level, reason);
+        self.settle();
+    }
+
+    /// The same, with `settled` as it was.
+    fn append(&mut self, lit: Lit, level: u32, reason: Option<ClauseId>)
         requires free { spot_in self.old.entries lit.var ≡ None }
         requires within { lit.var < self.old.vars }
         ensures entries { self.new.entries ≡ record { lit = lit; level = level; reason = reason } ∷ self.old.entries }
@@ -141,6 +171,8 @@ impl Assignment {
     {
         if let Some(lit) = self.order.pop() {
             self.table[lit.var as usize] = None;
+            let settled = self.settled.min(lit.var as usize);
+            self.settled = settled;
         }
     }
 }
@@ -156,4 +188,16 @@ fn put_none(table: &mut Vec<Option<Spot>>, count: usize)
             Err(_) => unreachable!(),
         }
     }
+}
+
+/// The first place from this one on at which there is nothing, or the length.
+fn first_none(table: &[Option<Spot>], from: usize) -> usize
+    ensures { (var : ℕ) → var < result → from ≤ var → IsTrue (is_some (slice_index_or table.now var None)) }
+{
+    for at in from..table.len() {
+        if table[at].is_none() {
+            return at;
+        }
+    }
+    table.len()
 }

@@ -5,6 +5,7 @@ mod assignment;
 #[cfg(test)]
 mod tests;
 mod trail;
+mod unassigned;
 
 pub use assignment::Entry;
 pub use trail::Trail;

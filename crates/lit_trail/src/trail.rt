@@ -1,9 +1,12 @@
 //! The trail of a search.
 
 ghost use Rattle.std.specs.Prelude.{◌≡◌, ℕ, ◌+◌, ◌<◌, ◌≤◌, ◌^◌, [], ◌∷◌, map, max, reverse, Some, None, length, OnOk, OnErr};
+ghost use Rattle.lit_trail.specs.Unassigned.{first_open};
 ghost use Rattle.lit_trail.specs.Entries.{value_in, level_in, reason_in, spot_in, decision_in, back};
 
 use crate::assignment::Assignment;
+use crate::unassigned::{first_from, states_below};
+use atom_space::AtomSpace;
 use clause_store::ClauseId;
 use std::alloc::Global;
 use std::marker::Model;
@@ -174,5 +177,13 @@ impl Trail {
             self.assignment.pop();
         }
         self.decisions.truncate(level as usize);
+    }
+
+    /// The first visible variable without a value, by state and atom, of the states below `n` that the
+    /// space has. It begins where a variable without a value may be, not at state 0.
+    pub fn first_unassigned(&self, space: &AtomSpace, n: u32) -> Option<u32>
+        ensures { result ≡ first_open self.now.entries space.now n }
+    {
+        first_from(&self.assignment, space, states_below(space, n))
     }
 }

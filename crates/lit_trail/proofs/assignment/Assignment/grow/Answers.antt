@@ -4,7 +4,7 @@ use Rattle.std.proofs.lemmas.List.{length-append, length-replicate}
 use Rattle.tel_base.specs.declared.literals.Lit.{Lit}
 use Rattle.lit_trail.specs.declared.assignment.Spot.{Spot}
 use Rattle.lit_trail.specs.Table.{InStep}
-use Rattle.lit_trail.proofs.TableSteps.{grow_step}
+use Rattle.lit_trail.proofs.TableSteps.{grow_step, settled-grow}
 use Rattle.lit_trail.proofs.assignment.Assignment.grow.Goals as goal
 
 pub invariant_of-self-2 : goal.invariant_of-self-2
@@ -23,4 +23,4 @@ invariant_of-self-2 c =
     let now = c.len.ensures in
     let a = c.self.inside.table.ok in
     let b = c.self.inside.order.ok in
-    (subst (λ (xs : List Lit). InStep c.put_none.new.table.items xs) (sym same) (subst (λ (xs : List (Option Spot)). InStep xs order) (sym more) (grow_step table order count c.self.invariant.0)), omega (arith, long, added, ok, kept, old, now, a, b))
+    (subst (λ (xs : List Lit). InStep c.put_none.new.table.items xs) (sym same) (subst (λ (xs : List (Option Spot)). InStep xs order) (sym more) (grow_step table order count c.self.invariant.0)), omega (arith, long, added, ok, kept, old, now, a, b), settled-grow table c.put_none.new.table.items count c.self.inside.settled more c.self.invariant.2)
