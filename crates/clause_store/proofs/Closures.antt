@@ -5,7 +5,7 @@ use Rattle.std.proofs.lemmas.Bool.{and_parts, and_from, or_cases, false≢true, 
 use Rattle.tel_base.specs.declared.literals.Lit.{Lit}
 use Rattle.tel_base.specs.Literals.{negate}
 use Rattle.clause_store.specs.Closure.{In, Clause, same_lit, others, refutes, keeps_unit, Up, Conflict}
-use Rattle.clause_store.proofs.Members.{In-list_all, list_all-from_In}
+use Rattle.tel_base.proofs.Members.{In-list_all, list_all-from_In}
 
 same_bool : (a b : Bool) → cond a b (not b) ≡ true → a ≡ b
 same_bool true b h = sym h

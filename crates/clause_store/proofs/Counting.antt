@@ -8,7 +8,7 @@ use Rattle.tel_base.specs.declared.literals.Lit.{Lit}
 use Rattle.tel_base.specs.Literals.{lit_of, negate}
 use Rattle.clause_store.specs.Closure.{In, Clause, same_lit, Absorbed}
 use Rattle.clause_store.specs.Counts.{has_lit, digit, code, unused, left_over, IsBelow}
-use Rattle.clause_store.proofs.Members.{In-map_from, any_found, any_from}
+use Rattle.tel_base.proofs.Members.{In-map_from, any_found, any_from}
 use Rattle.clause_store.proofs.Closures.{same_lit-true, same_lit-self}
 use Rattle.clause_store.proofs.Free.{held_is_absorbed}
 

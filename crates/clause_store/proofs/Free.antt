@@ -6,7 +6,7 @@ use Rattle.std.proofs.lemmas.Bool.{cases_Bool, or_cases, or_left, or_right, not_
 use Rattle.tel_base.specs.declared.literals.Lit.{Lit}
 use Rattle.tel_base.specs.Literals.{negate}
 use Rattle.clause_store.specs.Closure.{In, Clause, Lits, negations, same_lit, others, refutes, keeps_unit, keeps_units, Up, Conflict, Absorbed, TwoOpen, IsClosedLevel}
-use Rattle.clause_store.proofs.Members.{In-list_all, list_all-from_In, In-map, In-map_from, In-filter, In-filter_from, any_found}
+use Rattle.tel_base.proofs.Members.{In-list_all, list_all-from_In, In-map, In-map_from, In-filter, In-filter_from, any_found}
 use Rattle.clause_store.proofs.Closures.{same_lit-true}
 
 -- X holds no literal with its negation, and negates no clause whole

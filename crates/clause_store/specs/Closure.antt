@@ -1,14 +1,10 @@
 -- The unit rule, its closure, and the clauses that it absorbs (Atserias, Fichte and Thurley, "Clause-learning algorithms with many
 -- restarts and bounded-width resolution", 2011).
-use Rattle.std.specs.Prelude.{◌≡◌, Bool, false, not, ◌&&◌, ◌||◌, List, [], ◌∷◌, map, IsTrue, ◌==◌, ◌⊎◌, if◌then◌else◌}
+use Rattle.std.specs.Prelude.{◌≡◌, Bool, false, not, ◌&&◌, ◌||◌, List, map, IsTrue, ◌==◌, ◌⊎◌, if◌then◌else◌}
 use Rattle.std.specs.List.{list_all, list_any, filter}
 use Rattle.tel_base.specs.declared.literals.Lit.{Lit}
 use Rattle.tel_base.specs.Literals.{negate}
-
--- x is an element of the list
-abbrev pub In : {X : Type 0} → X → List X → Type 0
-In x [] = ⊥
-In x (y ∷ ys) = (y ≡ x) ⊎ In x ys
+pub use Rattle.tel_base.specs.Members.{In}
 
 abbrev pub Clause : Type 0
 Clause = List Lit

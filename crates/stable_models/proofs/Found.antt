@@ -14,7 +14,7 @@ use Rattle.tel_semantics.specs.NodeFormula.{node_formula}
 use Rattle.tel_semantics.specs.Satisfaction.{sat}
 use Rattle.tel_semantics.specs.Theory.{body_formula, head_formula}
 use Rattle.tel_semantics.specs.Laws.{MeetsAll}
-use Rattle.tel_semantics.proofs.Members.{In, In-list_all, In-from_Contains, In-map, In-flat_map}
+use Rattle.tel_base.proofs.Members.{In, In-list_all, In-from_Contains, In-map, In-flat_map}
 use Rattle.tel_semantics.proofs.InRange.{pair_below}
 use Rattle.tel_semantics.proofs.Expansions.{same_truth}
 use Rattle.tel_base.specs.declared.literals.Lit.{Lit}

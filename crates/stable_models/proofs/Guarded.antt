@@ -19,7 +19,7 @@ use Rattle.tel_rule.specs.Nodes.{kid_value, takes_kids, is_arrow, guard, guards}
 use Rattle.tel_rule.specs.Ground.{Ground, IsGround, item_is_guarded, literal_is_guarded, body_is_guarded}
 use Rattle.tel_rule.proofs.NodeSteps.{value-at}
 use Rattle.tel_semantics.specs.Traces.{Test}
-use Rattle.tel_semantics.proofs.Members.{In, In-list_all, In-map}
+use Rattle.tel_base.proofs.Members.{In, In-list_all, In-map}
 use Rattle.formula_unfold.specs.Nodes.{node_of}
 use Rattle.stable_models.proofs.NodeSteps.{is_not_op, is_arrow_op}
 use Rattle.formula_unfold.proofs.NodeReads.{get_same}

@@ -8,7 +8,7 @@ use Rattle.tel_rule.specs.Rising.{numbers_rise}
 use Rattle.tel_semantics.specs.Traces.{Test, test_of, is_member, is_state, IsTrace}
 use Rattle.tel_semantics.specs.NodeFormula.{node_formula}
 use Rattle.tel_semantics.specs.Satisfaction.{sat}
-use Rattle.tel_semantics.proofs.Members.{Contains-from_In, In-from_Contains}
+use Rattle.tel_base.proofs.Members.{Contains-from_In, In-from_Contains}
 use Rattle.tel_semantics.specs.Lists.{full_trace}
 use Rattle.tel_semantics.specs.Theory.{theory, is_model}
 use Rattle.tel_semantics.specs.Equilibrium.{list_of}

@@ -12,7 +12,7 @@ use Rattle.tel_semantics.specs.Traces.{Test, IsBelow}
 use Rattle.tel_semantics.specs.Satisfaction.{sat}
 use Rattle.tel_semantics.specs.Theory.{body_formula, head_formula}
 use Rattle.tel_semantics.specs.Laws.{MeetsAll}
-use Rattle.tel_semantics.proofs.Members.{In, In-list_all, list_all-from_In, Contains-from_In}
+use Rattle.tel_base.proofs.Members.{In, In-list_all, list_all-from_In, Contains-from_In}
 use Rattle.tel_base.specs.declared.literals.Lit.{Lit}
 use Rattle.normal_program.specs.declared.rules.NRule.{NRule}
 use Rattle.atom_space.specs.Numbers.{Counts, visible, part, body_at, end_at}

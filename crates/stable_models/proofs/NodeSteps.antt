@@ -15,7 +15,7 @@ use Rattle.tel_semantics.specs.Traces.{Test}
 use Rattle.tel_semantics.specs.Formula.{Formula}
 use Rattle.tel_semantics.specs.NodeFormula.{op_formula, node_formula, kid_formula}
 use Rattle.tel_semantics.specs.Satisfaction.{sat}
-use Rattle.tel_semantics.proofs.Members.{In}
+use Rattle.tel_base.proofs.Members.{In}
 use Rattle.tel_semantics.specs.Walking.{IsNodeAt}
 use Rattle.atom_space.specs.Numbers.{part, end_at}
 use Rattle.formula_unfold.specs.Unfold.{kid_var, many_shape, op_shape}

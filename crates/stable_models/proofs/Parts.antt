@@ -16,7 +16,7 @@ use Rattle.tel_semantics.specs.Traces.{Test, IsBelow}
 use Rattle.tel_semantics.specs.Formula.{Formula, atoms_below}
 use Rattle.tel_semantics.specs.NodeFormula.{op_formula, node_formula, kid_formula, binary_formula}
 use Rattle.tel_semantics.specs.Satisfaction.{sat}
-use Rattle.tel_semantics.proofs.Members.{In, In-list_all}
+use Rattle.tel_base.proofs.Members.{In, In-list_all}
 use Rattle.tel_semantics.specs.Walking.{IsNodeAt}
 use Rattle.tel_semantics.proofs.NodeLaws.{node_at}
 use Rattle.tel_semantics.proofs.InRange.{node_below}

@@ -7,7 +7,7 @@ use Rattle.tel_rule.specs.declared.ground.Instance.{Instance}
 use Rattle.tel_rule.specs.declared.ground.GroundHead.{GroundHead}
 use Rattle.tel_rule.specs.declared.ground.GroundHead.TheVariants as heads
 use Rattle.tel_rule.specs.Ground.{Ground}
-use Rattle.tel_semantics.proofs.Members.{In, In-append_left, In-append_right, In-append_cases, In-map, In-map_from, In-flat_map, In-flat_map_from}
+use Rattle.tel_base.proofs.Members.{In, In-append_left, In-append_right, In-append_cases, In-map, In-map_from, In-flat_map, In-flat_map_from}
 use Rattle.tel_base.specs.declared.literals.Lit.{Lit}
 use Rattle.normal_program.specs.declared.rules.NRule.{NRule}
 use Rattle.atom_space.specs.Numbers.{Counts, visible, part, body_at, end_at}

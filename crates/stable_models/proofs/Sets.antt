@@ -3,7 +3,7 @@ use Rattle.std.proofs.Common.{◌≡◌, ℕ, Bool, true, false, cond, not, ◌&
 use Rattle.std.specs.Prelude.{Option, Some, None, ◌==◌}
 use Rattle.std.specs.List.{list_all, list_any, filter}
 use Rattle.std.proofs.lemmas.Bool.{and_parts, and_from, or_cases, or_left, or_right, eqb-true, eq-eqb, not_from_false, false≢true, cases_Bool}
-use Rattle.tel_semantics.proofs.Members.{In, In-list_all, list_all-from_In}
+use Rattle.tel_base.proofs.Members.{In, In-list_all, list_all-from_In}
 use Rattle.tel_base.specs.declared.literals.Lit.{Lit}
 use Rattle.normal_program.specs.declared.rules.NRule.{NRule}
 use Rattle.normal_program.specs.StableSets.{Set, lit_holds, lits_hold, body_holds, head_kept, keeps, is_closed, IsStable}

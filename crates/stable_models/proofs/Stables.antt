@@ -13,7 +13,7 @@ use Rattle.tel_semantics.specs.NodeFormula.{node_formula}
 use Rattle.tel_semantics.specs.Satisfaction.{sat}
 use Rattle.tel_semantics.specs.Theory.{body_formula, head_formula}
 use Rattle.tel_semantics.specs.Laws.{MeetsAll}
-use Rattle.tel_semantics.proofs.Members.{In, In-list_all, list_all-from_In, Contains-from_In, In-from_Contains, In-map_from, In-flat_map_from}
+use Rattle.tel_base.proofs.Members.{In, In-list_all, list_all-from_In, Contains-from_In, In-from_Contains, In-map_from, In-flat_map_from}
 use Rattle.tel_semantics.proofs.SatLaws.{sat-persists}
 use Rattle.tel_semantics.proofs.InRange.{body_below, pair_below}
 use Rattle.normal_program.specs.declared.rules.NRule.{NRule}

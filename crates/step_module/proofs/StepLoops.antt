@@ -4,7 +4,7 @@ use Rattle.std.specs.Prelude.{nat_lt}
 use Rattle.std.specs.List.{list_all, range_with_len}
 use Rattle.std.proofs.lemmas.Bool.{and_from, lt-ltb}
 use Rattle.tel_rule.specs.Ground.{Ground, IsGround}
-use Rattle.tel_semantics.proofs.Members.{In, list_all-from_In}
+use Rattle.tel_base.proofs.Members.{In, list_all-from_In}
 use Rattle.tel_semantics.proofs.InRange.{pair_below}
 
 map_range : {A : Type 0} (f : ℕ → A) (count low : ℕ) → map f (range_with_len low (suc count)) ≡ (map f (range_with_len low count) ++ (f (low + count) ∷ []))

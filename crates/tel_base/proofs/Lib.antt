@@ -1,3 +1,4 @@
 pub mod Decimals
 pub mod Lookup
+pub mod Members
 pub mod Told

@@ -6,3 +6,4 @@ pub mod Literals
 pub mod Keys
 pub mod Opened
 pub mod Taken
+pub mod Members

@@ -8,7 +8,7 @@ use Rattle.tel_semantics.specs.Equilibrium.{tem, list_of}
 use Rattle.tel_rule.specs.Rising.{numbers_rise}
 use Rattle.tel_semantics.specs.Traces.{is_state}
 use Rattle.tel_semantics.specs.Lists.{subsets, traces_below, full_trace, all_traces}
-use Rattle.tel_semantics.proofs.Members.{In, In-append_left, In-append_right, In-append_cases, In-map, In-map_from, In-flat_map, In-flat_map_from}
+use Rattle.tel_base.proofs.Members.{In, In-append_left, In-append_right, In-append_cases, In-map, In-map_from, In-flat_map, In-flat_map_from}
 
 -- a list that rises strictly from `low` on and stays below `high`
 abbrev pub RisesWithin : ℕ → ℕ → List ℕ → Type 0

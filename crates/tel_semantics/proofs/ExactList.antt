@@ -15,7 +15,7 @@ use Rattle.tel_semantics.specs.Laws.{MeetsAll, IsEquilibrium}
 use Rattle.tel_semantics.proofs.Quantifiers.{each_below-all, each_below-at, each_below-same, each_below-fails}
 use Rattle.tel_semantics.proofs.SatLaws.{sat-agree}
 use Rattle.tel_semantics.proofs.InRange.{demand_below, theory_below}
-use Rattle.tel_semantics.proofs.Members.{In, In-filter, In-filter_from, In-list_all, list_all-from_In, In-from_Contains, Contains-from_In}
+use Rattle.tel_base.proofs.Members.{In, In-filter, In-filter_from, In-list_all, list_all-from_In, In-from_Contains, Contains-from_In}
 use Rattle.tel_semantics.proofs.Below.{Under-traces_below, traces_below-Under, Under-full, full-Under, list_of-suc}
 use Rattle.tel_semantics.proofs.Minimal.{part_of, Under-part_of, Agree-part_of, IsBelow-Under}
 

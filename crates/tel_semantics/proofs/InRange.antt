@@ -30,7 +30,7 @@ use Rattle.tel_rule.specs.Ground.{Ground, IsGround, head_in_range, item_in_range
 use Rattle.tel_semantics.specs.Formula.{Formula, False, Atom, atoms_below, negation}
 use Rattle.tel_semantics.specs.NodeFormula.{const_formula, unary_formula, binary_formula, many_formula, op_formula, node_formulas, node_formula}
 use Rattle.tel_semantics.specs.Theory.{Demand, item_formula, literal_formula, body_formula, derived_formula, head_formula, instance_formula, demand_of, pair_demand, theory}
-use Rattle.tel_semantics.proofs.Members.{In, In-map_from, In-flat_map_from, In-filter_from, list_all-from_In}
+use Rattle.tel_base.proofs.Members.{In, In-map_from, In-flat_map_from, In-filter_from, list_all-from_In}
 
 -- ---- the formulas of the nodes
 

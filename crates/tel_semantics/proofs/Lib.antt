@@ -1,7 +1,6 @@
 pub mod Quantifiers
 pub mod SatLaws
 pub mod ListSteps
-pub mod Members
 pub mod Below
 pub mod Minimal
 pub mod ExactList

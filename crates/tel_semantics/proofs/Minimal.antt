@@ -5,7 +5,7 @@ use Rattle.std.specs.List.{filter}
 use Rattle.std.proofs.lemmas.Bool.{or_cases, or_left, or_right, cases_Bool, eqb-true}
 use Rattle.tel_semantics.specs.Traces.{Test, is_member, test_of, IsBelow, Agree}
 use Rattle.tel_semantics.specs.Lists.{subsets}
-use Rattle.tel_semantics.proofs.Members.{In, In-append_left, In-append_right, In-append_cases, In-map, In-map_from}
+use Rattle.tel_base.proofs.Members.{In, In-append_left, In-append_right, In-append_cases, In-map, In-map_from}
 use Rattle.tel_semantics.proofs.Below.{Under}
 
 -- whether a number is the atom, or else in the state

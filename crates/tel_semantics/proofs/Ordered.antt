@@ -8,7 +8,7 @@ use Rattle.tel_semantics.specs.Traces.{is_member, test_of}
 use Rattle.tel_semantics.specs.Lists.{subsets, all_traces}
 use Rattle.tel_semantics.specs.Equilibrium.{tem, list_of}
 use Rattle.tel_semantics.specs.Order.{Precedes}
-use Rattle.tel_semantics.proofs.Members.{In, In-append_cases, In-map_from, In-flat_map_from, In-filter_from}
+use Rattle.tel_base.proofs.Members.{In, In-append_cases, In-map_from, In-flat_map_from, In-filter_from}
 use Rattle.tel_semantics.proofs.Below.{RisesWithin, RisesWithin-subsets, list_of-suc}
 
 -- R holds of each element and each later one

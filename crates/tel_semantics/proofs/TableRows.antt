@@ -9,7 +9,7 @@ use Rattle.tel_semantics.specs.Formula.{Formula, True, False, And, Arrow, Previo
 use Rattle.tel_semantics.specs.NodeFormula.{many_formula}
 use Rattle.tel_semantics.specs.Satisfaction.{sat}
 use Rattle.tel_semantics.specs.Table.{Holds, FollowsTable, MeansItsName}
-use Rattle.tel_semantics.proofs.Members.{In, In-from_Contains, Contains-from_In}
+use Rattle.tel_base.proofs.Members.{In, In-from_Contains, Contains-from_In}
 use Rattle.tel_semantics.proofs.Quantifiers.{each_below-at, each_below-all, some_below-at, some_below-from}
 
 -- `not b || c` as an implication

@@ -7,7 +7,7 @@ use Rattle.tel_rule.specs.Ground.{Ground}
 use Rattle.tel_semantics.specs.Traces.{is_state}
 use Rattle.tel_semantics.specs.Lists.{full_trace, all_traces}
 use Rattle.tel_semantics.specs.Equilibrium.{tem, list_of}
-use Rattle.tel_semantics.proofs.Members.{In-filter_from, list_all-from_In}
+use Rattle.tel_base.proofs.Members.{In-filter_from, list_all-from_In}
 use Rattle.tel_semantics.proofs.Below.{Under-full, Under-traces_below, list_of-suc}
 use Rattle.trace_print.specs.States.{are_below}
 

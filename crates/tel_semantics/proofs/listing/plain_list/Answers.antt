@@ -1,7 +1,7 @@
 use Rattle.std.proofs.Common.{◌∙◌, sym, ap, subst, ℕ, List, arith}
 use Rattle.std.specs.List.{list_all}
 use Rattle.tel_rule.specs.Rising.{numbers_rise}
-use Rattle.tel_semantics.proofs.Members.{In, In-get_or}
+use Rattle.tel_base.proofs.Members.{In, In-get_or}
 use Rattle.tel_semantics.proofs.Below.{all_traces-rise}
 use Rattle.tel_semantics.proofs.listing.plain_list.Goals as goal
 

@@ -1,8 +1,8 @@
--- Membership.
-use Rattle.std.proofs.Common.{◌≡◌, Bool, true, false, cond, ◌&&◌, List, [], ◌∷◌, ◌++◌, map, refl, sym, ap, subst, ◌∙◌, ◌⊎◌, inl, inr, ⊎_elim}
-use Rattle.std.specs.List.{filter, list_all, list_any}
+-- What is in a list that `++`, `map`, `flat_map` or `filter` makes, and what a test that is met by all or by some says of a member.
+use Rattle.std.proofs.Common.{◌≡◌, ℕ, ◌<◌, zero, suc, Bool, true, false, cond, ◌&&◌, List, [], ◌∷◌, ◌++◌, length, get_or, map, refl, sym, ap, subst, ◌∙◌, ◌⊎◌, inl, inr, ⊎_elim, arith}
+use Rattle.std.specs.List.{flat_map, filter, list_all, list_any, Contains}
 use Rattle.std.proofs.lemmas.Bool.{and_parts, and_from, cases_Bool, cond-true, cond-false, or_cases, or_parts, false≢true}
-use Rattle.clause_store.specs.Closure.{In}
+pub use Rattle.tel_base.specs.Members.{In}
 
 pub In-append_left : {X : Type 0} (x : X) (xs ys : List X) → In x xs → In x (xs ++ ys)
 In-append_left x [] ys h = absurd h
@@ -26,6 +26,16 @@ In-map_from f y [] h = absurd h
 In-map_from f y (z ∷ xs) h =
     ⊎_elim (λ e. (z, inl refl, e)) (λ m. let w = In-map_from f y xs m in (w.0, inr w.1, w.2)) h
 
+pub In-flat_map : {X A : Type 0} (f : X → List A) (x : X) (a : A) (xs : List X) → In x xs → In a (f x) → In a (flat_map f xs)
+In-flat_map f x a [] h i = absurd h
+In-flat_map f x a (z ∷ xs) h i =
+    ⊎_elim (λ e. In-append_left a (f z) (flat_map f xs) (subst (λ y. In a (f y)) (sym e) i)) (λ m. In-append_right a (f z) (flat_map f xs) (In-flat_map f x a xs m i)) h
+
+pub In-flat_map_from : {X A : Type 0} (f : X → List A) (a : A) (xs : List X) → In a (flat_map f xs) → (x : X) × In x xs × In a (f x)
+In-flat_map_from f a [] h = absurd h
+In-flat_map_from f a (z ∷ xs) h =
+    ⊎_elim (λ l. (z, inl refl, l)) (λ r. let w = In-flat_map_from f a xs r in (w.0, inr w.1, w.2)) (In-append_cases a (f z) (flat_map f xs) h)
+
 pub In-list_all : {X : Type 0} (p : X → Bool) (x : X) (xs : List X) → list_all p xs ≡ true → In x xs → p x ≡ true
 In-list_all p x [] h i = absurd i
 In-list_all p x (z ∷ xs) h i =
@@ -36,6 +46,19 @@ pub list_all-from_In : {X : Type 0} (p : X → Bool) (xs : List X) → ((x : X) 
 list_all-from_In p [] h = refl
 list_all-from_In p (z ∷ xs) h =
     and_from (p z) (list_all p xs) (h z (inl refl)) (list_all-from_In p xs (λ x i. h x (inr i)))
+
+pub In-get_or : {X : Type 0} (xs : List X) (i : ℕ) (x : X) → i < length xs → get_or xs i x ≡ x → In x xs
+In-get_or [] i x l e = absurd (omega arith)
+In-get_or (z ∷ xs) zero x l e = inl e
+In-get_or (z ∷ xs) (suc i) x l e = inr (In-get_or xs i x (omega arith) e)
+
+pub In-from_Contains : {X : Type 0} (xs : List X) (x : X) → Contains xs x → In x xs
+In-from_Contains xs x h = In-get_or xs h.0 x h.1 h.2
+
+pub Contains-from_In : {X : Type 0} (xs : List X) (x : X) → In x xs → Contains xs x
+Contains-from_In [] x h = absurd h
+Contains-from_In (z ∷ xs) x h =
+    ⊎_elim (λ e. (0, omega arith, e)) (λ m. let w = Contains-from_In xs x m in (suc w.0, omega arith, w.2)) h
 
 pub In-filter : {X : Type 0} (p : X → Bool) (x : X) (xs : List X) → In x xs → p x ≡ true → In x (filter p xs)
 In-filter p x [] h t = absurd h
