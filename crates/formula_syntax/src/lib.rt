@@ -26,6 +26,3 @@ pub use names::Names;
 pub use reading::{Reading, Stop};
 pub use senses::{Sense, sense_of};
 pub use variables::Variables;
-
-#[cfg(test)]
-mod tests;

@@ -9,8 +9,6 @@ mod outside;
 mod places;
 mod sinks;
 mod sources;
-#[cfg(test)]
-mod tests;
 mod texts;
 mod writing;
 

@@ -6,8 +6,6 @@ mod fault;
 mod front;
 mod places;
 mod scan;
-#[cfg(test)]
-mod tests;
 mod token;
 
 pub use fault::LexFault;

@@ -6,8 +6,6 @@ mod command;
 mod fields;
 mod pieces;
 mod running;
-#[cfg(test)]
-mod tests;
 
 pub use command::settings;
 pub use fields::{Input, Settings, SettingsFault, Stop, Word};

@@ -13,6 +13,3 @@ pub use exprs::{Expr, ProductOp, SumOp};
 pub use laws::{equal_terms, growing_tables, order_of_terms, values_of_terms};
 pub use symbols::Symbols;
 pub use terms::{Term, Value};
-
-#[cfg(test)]
-mod tests;

@@ -5,13 +5,10 @@
 //! row that differs. It ends with 1 where a row differs, or where a table can't be read.
 #![tactic(auto)]
 
-mod fault;
-mod fields;
+mod names;
 mod portions;
-mod quoting;
 mod rows;
 mod running;
-mod values;
 
 use anyhow::{Context, Result, ensure};
 use rows::{Row, rows_of};

@@ -1,9 +1,8 @@
 //! The rows of a table.
 ghost use Rattle.std.specs.Prelude.{◌≤◌, IfOk};
 
-use crate::fault::{Cause, Fault, in_line};
-use crate::fields::{Field, Name, fields_of};
-use crate::values::Value;
+use crate::names::{Name, name_of};
+use row_tables::{Cause, Fault, Value, fields_of, in_line, joined, number, numbers, word, words};
 use std::alloc::Global;
 
 /// How many bytes the output has room for where a row doesn't say it.
@@ -58,58 +57,6 @@ struct Draft {
     output: Option<Vec<u8>>,
 }
 
-/// The only value, which is a number.
-fn number(values: &[Value]) -> Result<u64, Cause> {
-    match values {
-        [Value::Number(number)] => Ok(*number),
-        _ => Err(Cause::Values),
-    }
-}
-
-/// The values, which are numbers.
-fn numbers(alloc: Global, values: &[Value]) -> Result<Vec<u64>, Cause> {
-    let mut all = Vec::new(alloc);
-    for value in values {
-        match value {
-            Value::Number(number) => all.push(*number)?,
-            Value::Text(_) => return Err(Cause::Values),
-        }
-    }
-    Ok(all)
-}
-
-/// The values, which are texts, one behind the other.
-fn joined(alloc: Global, values: &[Value]) -> Result<Vec<u8>, Cause> {
-    let mut all = Vec::new(alloc);
-    for value in values {
-        match value {
-            Value::Text(text) => all.extend_from_slice(text.as_slice())?,
-            Value::Number(_) => return Err(Cause::Values),
-        }
-    }
-    Ok(all)
-}
-
-/// A text as a word of the command or a name of a file.
-fn word(alloc: Global, value: &Value) -> Result<String, Cause> {
-    match value {
-        Value::Text(text) => match str::from_utf8(text.as_slice()) {
-            Ok(word) => Ok(String::from_str(alloc, word)?),
-            Err(_) => Err(Cause::Utf8),
-        },
-        Value::Number(_) => Err(Cause::Values),
-    }
-}
-
-/// The values, which are words.
-fn words(alloc: Global, values: &[Value]) -> Result<Vec<String>, Cause> {
-    let mut all = Vec::new(alloc);
-    for value in values {
-        all.push(word(alloc, value)?)?;
-    }
-    Ok(all)
-}
-
 /// The name and the text of a file.
 fn file(alloc: Global, values: &[Value]) -> Result<(String, Vec<u8>), Cause> {
     match values.split_first() {
@@ -157,9 +104,8 @@ impl Draft {
     }
 
     /// Takes a field that isn't the first one of a row.
-    fn add(&mut self, alloc: Global, field: &Field) -> Result<(), Cause> {
-        let values = field.values.as_slice();
-        match field.name {
+    fn add(&mut self, alloc: Global, name: Name, values: &[Value]) -> Result<(), Cause> {
+        match name {
             Name::Words => Err(Cause::Twice),
             Name::File => {
                 self.files.push(file(alloc, values)?)?;
@@ -215,13 +161,15 @@ pub fn rows_of(alloc: Global, table: &[u8]) -> Result<Vec<Row>, Fault> {
     let mut draft: Option<Draft> = None;
     for field in &fields_of(alloc, table)? {
         let line = field.line;
-        match (field.name, &mut draft) {
+        let values = field.values.as_slice();
+        let name = in_line(line, name_of(field.name.as_slice()).ok_or(Cause::Name))?;
+        match (name, &mut draft) {
             (Name::Words, _) => {
                 add_row(alloc, &mut rows, draft.take())?;
-                let words = in_line(line, words(alloc, field.values.as_slice()))?;
+                let words = in_line(line, words(alloc, values))?;
                 draft = Some(Draft::new(alloc, line, words));
             }
-            (_, Some(draft)) => in_line(line, draft.add(alloc, field))?,
+            (_, Some(draft)) => in_line(line, draft.add(alloc, name, values))?,
             (_, None) => in_line(line, Err(Cause::Words))?,
         }
     }

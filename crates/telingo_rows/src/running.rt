@@ -1,8 +1,8 @@
 //! A row through `telingo`, over texts and sinks in memory.
 
 use crate::portions::Portions;
-use crate::quoting::quoted;
 use crate::rows::{Outcome, Row, Setting};
+use row_tables::quoted;
 use std::alloc::{AllocError, Global};
 use tel_base::{MemSink, MemSource, Memory};
 use telingo_cli::telingo;

@@ -6,7 +6,5 @@ mod atoms;
 mod lines;
 mod pieces;
 mod printing;
-#[cfg(test)]
-mod tests;
 
 pub use printing::{print_end, print_length, print_trace};

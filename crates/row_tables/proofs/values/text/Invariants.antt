@@ -1,5 +1,5 @@
 use Rattle.std.proofs.Common.{length, ◌-◌}
-use Rattle.telingo_rows.proofs.values.text.Given as goal
+use Rattle.row_tables.proofs.values.text.Given as goal
 
 abbrev pub decreases-text : goal.decreases-text
 decreases-text l = length l.bytes - l.at

@@ -1,19 +1,18 @@
-//! Lines that were worked out by hand, over a sink in memory.
-
+//! Lines of the output that no program prints yet: endings by a limit and by a budget, arguments, hidden atoms.
 ghost use Rattle.std.specs.Prelude.{◌≡◌, false, [], ◌∷◌, IfOk, IsTrue, length};
 ghost use Rattle.std.specs.List.{list_all};
 ghost use Rattle.tel_term.specs.declared.terms.Term.TheVariants as terms;
 ghost use Rattle.tel_term.specs.declared.terms.Value.TheVariants as values;
 ghost use Rattle.trace_print.specs.States.{are_below};
 
-use crate::{print_end, print_length, print_trace};
+use row_tables::{Cause, Value as Given};
 use sqlite_items::Items;
 use std::alloc::Global;
-use std::test::Fail;
 use tel_base::{Failed, MemSink, Memory, Sink, Text};
 use tel_rule::{GroundAtom, Show, Template, Trace};
 use tel_semantics::How;
 use tel_term::{Symbols, Term, Value};
+use trace_print::{print_end, print_length, print_trace};
 
 /// The name p, and the string of a quote, a backslash and a line feed.
 fn name_and_string(alloc: Global) -> Result<Symbols, Memory>
@@ -91,22 +90,15 @@ fn print<O: Sink>(out: &mut O, template: &Template, trace: &Trace) -> Result<(),
     print_end(out, How::Budget, u64::MAX)
 }
 
-/// What is printed of a trace in which an atom is true that is shown or not.
-fn printed(alloc: Global, shown: bool) -> Result<Vec<u8>, Memory> {
+/// What is printed of a trace in which an atom is true that is shown or not, as the row says.
+pub fn printed(alloc: Global, given: &[Given]) -> Result<Vec<u8>, Cause> {
+    let shown = match given {
+        [Given::Text(word)] => word.as_slice() == b"shown".as_slice(),
+        _ => return Err(Cause::Values),
+    };
     let template = one_atom(alloc, shown)?;
     let trace = one_state(alloc)?;
     let mut sink = MemSink::new(alloc, 4096, 7, Vec::new(alloc))?;
     let _ = print(&mut sink, &template, &trace);
     Ok(Vec::from_slice(alloc, sink.bytes())?)
-}
-
-#[test]
-fn lines(rt: HostRuntime) -> Result<(), Fail> {
-    let ends = "end complete 2\nend limit 0\nend budget 18446744073709551615\n";
-    for (shown, atom) in [(true, " p(-3,p,\"\\\"\\\\\\n\")"), (false, "")] {
-        let bytes = printed(rt.alloc(), shown)?;
-        let wanted = format!(in rt.alloc(); "length 4294967295\ntrace\nstate 0:{atom}\n{ends}")?;
-        assert_eq!(rt; bytes.as_slice(), wanted.as_bytes());
-    }
-    Ok(())
 }

@@ -1,5 +1,5 @@
 use Rattle.std.proofs.Common.{length, ◌-◌, ◌≤◌}
-use Rattle.telingo_rows.proofs.values.add_values.Given as goal
+use Rattle.row_tables.proofs.values.add_values.Given as goal
 
 abbrev pub invariant-values : goal.invariant-values
 invariant-values l = l.at ≤ length l.line

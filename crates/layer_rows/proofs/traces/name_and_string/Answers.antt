@@ -1,7 +1,7 @@
 use Rattle.std.proofs.Common.{◌≡◌, ◌∙◌, [], ◌∷◌, refl}
 use Rattle.tel_term.specs.declared.terms.Term.TheVariants as terms
 use Rattle.tel_term.specs.Symbols.{with_term}
-use Rattle.trace_print.proofs.tests.name_and_string.Goals as goal
+use Rattle.layer_rows.proofs.traces.name_and_string.Goals as goal
 
 both : with_term (with_term [] (terms.Name (112 ∷ []))) (terms.Str (34 ∷ 92 ∷ 10 ∷ [])) ≡ terms.Name (112 ∷ []) ∷ terms.Str (34 ∷ 92 ∷ 10 ∷ []) ∷ []
 unfolding with_term

@@ -4,51 +4,12 @@ use crate::fault::{Cause, Fault, in_line};
 use crate::values::{Value, add_values};
 use std::alloc::Global;
 
-/// What a field says.
-#[derive(Clone, Copy)]
-pub enum Name {
-    /// The words of the command. A row begins with them.
-    Words,
-    /// The name of a file, and its text.
-    File,
-    /// How many bytes a read takes at most.
-    Read,
-    /// How many bytes a write takes at most.
-    Write,
-    /// How many bytes the output has room for.
-    Room,
-    /// The numbers of the reads that fail.
-    FailedReads,
-    /// The numbers of the writes that fail.
-    FailedWrites,
-    /// The status that is wanted.
-    Status,
-    /// The output that is wanted.
-    Output,
-}
-
 /// A field, and the line in which it stands, from 1.
 #[derive(Drop)]
 pub struct Field {
     pub line: usize,
-    pub name: Name,
+    pub name: Vec<u8>,
     pub values: Vec<Value>,
-}
-
-/// The name that a word says.
-fn name_of(word: &[u8]) -> Option<Name> {
-    match word {
-        b"words" => Some(Name::Words),
-        b"file" => Some(Name::File),
-        b"read" => Some(Name::Read),
-        b"write" => Some(Name::Write),
-        b"room" => Some(Name::Room),
-        b"failed_reads" => Some(Name::FailedReads),
-        b"failed_writes" => Some(Name::FailedWrites),
-        b"status" => Some(Name::Status),
-        b"output" => Some(Name::Output),
-        _ => None,
-    }
 }
 
 /// The field that a line begins.
@@ -57,7 +18,7 @@ fn field_of(alloc: Global, line: usize, bytes: &[u8]) -> Result<Field, Cause> {
         .iter()
         .take_while(|byte| !byte.is_ascii_whitespace())
         .count();
-    let name = name_of(&bytes[..end]).ok_or(Cause::Name)?;
+    let name = Vec::from_slice(alloc, &bytes[..end])?;
     let mut values = Vec::new(alloc);
     add_values(alloc, &mut values, &bytes[end..])?;
     Ok(Field { line, name, values })
@@ -74,7 +35,7 @@ fn add_line(
         [] | [b'#', ..] => Ok(()),
         [b'"' | b'0'..=b'9', ..] => match fields.last_mut() {
             Some(last) => add_values(alloc, &mut last.values, bytes),
-            None => Err(Cause::Words),
+            None => Err(Cause::First),
         },
         _ => {
             fields.push(field_of(alloc, line, bytes)?)?;
@@ -83,7 +44,7 @@ fn add_line(
     }
 }
 
-/// The fields of a table.
+/// The fields of a table, in order, or the first line that can't be read.
 pub fn fields_of(alloc: Global, table: &[u8]) -> Result<Vec<Field>, Fault> {
     let mut fields = Vec::new(alloc);
     let mut line = 0usize;

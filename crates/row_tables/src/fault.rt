@@ -2,6 +2,7 @@
 ghost use Rattle.std.specs.Prelude.{◌≡◌, MatchResult, Ok, Err};
 
 use std::alloc::{AllocError, AllocFailed};
+use tel_base::Memory;
 use thiserror::Error;
 
 /// What is wrong with a line of a table.
@@ -31,6 +32,9 @@ pub enum Cause {
     /// The row has this field already.
     #[error("the field stands twice in its row")]
     Twice,
+    /// The table begins with a value.
+    #[error("a table begins with the name of a field")]
+    First,
     /// The first row begins with another field than its words.
     #[error("a row begins with its words")]
     Words,
@@ -50,6 +54,12 @@ impl From<AllocError> for Cause {
 
 impl<T: Drop> From<AllocFailed<T>> for Cause {
     fn from(_: AllocFailed<T>) -> Cause {
+        Cause::Memory
+    }
+}
+
+impl From<Memory> for Cause {
+    fn from(_: Memory) -> Cause {
         Cause::Memory
     }
 }

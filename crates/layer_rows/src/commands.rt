@@ -1,0 +1,55 @@
+//! Calls of the layer of settings.
+
+use row_tables::{Cause, Value, number, words};
+use std::alloc::Global;
+use tel_settings::{Input, Settings, SettingsFault, Stop, printed_lengths, settings, stops};
+
+/// The settings of these words, where they are a line of the command.
+fn settings_of(alloc: Global, given: &[Value]) -> Result<Option<Settings>, Cause> {
+    let words = words(alloc, given)?;
+    match settings(alloc, words.as_slice()) {
+        Ok(settings) => Ok(Some(settings)),
+        Err(SettingsFault::Usage) => Ok(None),
+        Err(SettingsFault::Memory) => Err(Cause::Memory),
+    }
+}
+
+/// The least and the greatest length, the rule and the number of files of these words, as `0 20 Sat 1`.
+pub fn settled(alloc: Global, given: &[Value]) -> Result<Vec<u8>, Cause> {
+    let Some(settings) = settings_of(alloc, given)? else {
+        return Ok(Vec::from_slice(alloc, b"usage")?);
+    };
+    let files = match &settings.input {
+        Input::Files(files) => files.len(),
+        Input::Number(_) => 0,
+    };
+    let shown = format!(in alloc;
+        "{} {} {:?} {files}",
+        settings.imin, settings.imax, settings.stop
+    )?;
+    Ok(shown.into_bytes())
+}
+
+/// A number of a length or of traces.
+fn count(value: &Value) -> Result<u32, Cause> {
+    match value {
+        Value::Number(number) => u32::try_from(*number).map_err(|_| Cause::Range),
+        Value::Text(_) => Err(Cause::Values),
+    }
+}
+
+/// Whether a run with the settings of these words stops after this length with so many traces.
+pub fn stopped(alloc: Global, given: &[Value]) -> Result<Vec<u8>, Cause> {
+    printed_lengths();
+    let Some((traces, given)) = given.split_last() else {
+        return Err(Cause::Values);
+    };
+    let Some((length, given)) = given.split_last() else {
+        return Err(Cause::Values);
+    };
+    let Some(settings) = settings_of(alloc, given)? else {
+        return Err(Cause::Values);
+    };
+    let stop = stops(&settings, count(length)?, count(traces)? as usize);
+    Ok(format!(in alloc; "{stop}")?.into_bytes())
+}
