@@ -61,7 +61,7 @@ pub struct Fact {
 }
 
 /// A predicate: a name, whether it is strongly negated, and a number of arguments.
-#[derive(Debug, Drop)]
+#[derive(Debug, Drop, PartialEq, Eq, Hash)]
 pub struct Signature {
     pub negative: bool,
     pub name: Text,
