@@ -10,3 +10,4 @@ pub mod Expansions
 pub mod Ranks
 pub mod NodeLaws
 pub mod InRange
+pub mod TableExamples

@@ -6,6 +6,7 @@ pub mod Satisfaction
 pub mod Table
 pub mod Walking
 pub mod Theory
+pub mod Tables
 pub mod Lists
 pub mod Equilibrium
 pub mod Order
