@@ -1,0 +1,4 @@
+pub mod Binding
+pub mod Closure
+pub mod Rules
+pub mod Waiting

@@ -1,0 +1,6 @@
+//! Which predicates of a program are tables, and which variables of its statements are bound.
+#![tactic(auto)]
+
+mod closure;
+mod rules;
+mod state;
