@@ -1,7 +1,7 @@
 -- Tests of lists, and marks.
-use Rattle.std.proofs.Common.{◌≡◌, ◌⊎◌, ℕ, zero, suc, ◌+◌, ◌<◌, ◌≤◌, Bool, true, false, ◌&&◌, ◌||◌, List, [], ◌∷◌, ◌++◌, length, get_or, take, refl, sym, ap, subst, ◌∙◌, true≢false, inl, inr, arith, IsTrue}
-use Rattle.std.specs.Prelude.{nat_lt, slice_set, ◌==◌}
-use Rattle.std.specs.List.{list_all, list_any}
+use Rattle.std.proofs.Common.{◌≡◌, ◌⊎◌, ℕ, zero, suc, ◌<◌, ◌≤◌, Bool, true, false, List, [], ◌∷◌, length, get_or, take, refl, sym, ap, subst, true≢false, inl, inr, arith, IsTrue}
+use Rattle.std.specs.Prelude.{nat_lt, slice_set}
+use Rattle.std.specs.List.{list_all}
 use Rattle.std.proofs.lemmas.Bool.{and_parts, and_from, ltb-true, lt-ltb}
 use Rattle.rule_binding.specs.declared.rules.BindingRule.{BindingRule}
 use Rattle.rule_binding.specs.Closure.{marked}

@@ -1,14 +1,14 @@
 -- A variable more is bound, and rules that are taken in.
-use Rattle.std.proofs.Common.{◌≡◌, ◌⊎◌, ◌↔◌, ℕ, zero, suc, ◌+◌, ◌<◌, Bool, true, false, ◌&&◌, ◌||◌, not, List, [], ◌∷◌, ◌++◌, length, refl, sym, ap, subst, ◌∙◌, true≢false, inl, inr, arith, IsTrue, IsFalse, rules, Result, Ok, Err}
+use Rattle.std.proofs.Common.{◌≡◌, ◌⊎◌, ◌↔◌, ℕ, ◌<◌, Bool, true, false, ◌&&◌, ◌||◌, not, List, [], ◌∷◌, ◌++◌, length, refl, sym, subst, ◌∙◌, inl, inr, arith, IsTrue, rules, Result, Ok, Err}
 use Rattle.std.specs.Prelude.{slice_set, ◌==◌, OnOk}
-use Rattle.std.specs.List.{list_all, list_any}
-use Rattle.std.proofs.lemmas.Bool.{and_parts, and_from, or_left, or_right, cases_Bool}
+use Rattle.std.specs.List.{list_all}
+use Rattle.std.proofs.lemmas.Bool.{and_parts, and_from, or_left, or_right}
 use Rattle.std.proofs.lemmas.List.Folds.{list_all-append, list_any-append}
 use Rattle.rule_binding.specs.declared.rules.BindingRule.{BindingRule}
 use Rattle.rule_binding.specs.declared.state.State.{State}
 use Rattle.rule_binding.specs.Binding.{Vars, has}
 use Rattle.rule_binding.specs.Closure.{marked, keeps_rule, keeps}
-use Rattle.rule_binding.specs.Waiting.{waiting_at, are_below, open_count, Holds, IsState, Meets}
+use Rattle.rule_binding.specs.Waiting.{waiting_at, Holds, Meets}
 use Rattle.rule_binding.proofs.Marks.{all_more, marked-set, marked-of_set, marked-kept}
 
 -- one more is among these

@@ -1,8 +1,6 @@
 -- Which variables of a statement are bound, and by which equations: first by the rows of tables, then again and again by the leftmost `=` that sets one.
-use Rattle.std.specs.Prelude.{◌≡◌, ℕ, ◌<◌, ◌==◌, Bool, true, false, not, ◌&&◌, List, [], ◌∷◌, ◌++◌, length, Option, Some, None, IsTrue, IsFalse, if◌then◌else◌}
+use Rattle.std.specs.Prelude.{◌≡◌, ℕ, ◌<◌, ◌==◌, Bool, not, ◌&&◌, List, [], ◌∷◌, ◌++◌, map, length, Option, Some, None, IsTrue, IsFalse, if◌then◌else◌}
 use Rattle.std.specs.List.{list_all, list_any, flat_map}
-use Rattle.tel_term.specs.declared.exprs.SumOp.{SumOp}
-use Rattle.tel_term.specs.declared.exprs.ProductOp.{ProductOp}
 use Rattle.tel_term.specs.declared.exprs.Expr.{Expr}
 use Rattle.tel_term.specs.declared.exprs.Expr.TheOpen.{Expr-F}
 use Rattle.tel_term.specs.declared.exprs.Expr.TheOpen as layers
@@ -29,16 +27,24 @@ has vars v = list_any (λ (w : ℕ). w == v) vars
 
 -- ---- variables of expressions
 
+-- the variables of operands, each behind its operator
+abbrev pub operand_vars : {Op : Type 0} → List (Op × List ℕ) → List ℕ
+operand_vars {Op} operands = flat_map (λ (operand : Op × List ℕ). operand.1) operands
+
 abbrev pub layer_vars : Expr-F (List ℕ) → List ℕ
 layer_vars (layers.Value value) = []
 layer_vars (layers.Var v) = v ∷ []
 layer_vars (layers.Minus inner) = inner
-layer_vars (layers.Sum first more) = first ++ flat_map (λ (operand : SumOp × List ℕ). operand.1) more
-layer_vars (layers.Product first more) = first ++ flat_map (λ (operand : ProductOp × List ℕ). operand.1) more
+layer_vars (layers.Sum first more) = first ++ operand_vars more
+layer_vars (layers.Product first more) = first ++ operand_vars more
 
 -- the variables of an expression, from left to right
 abbrev pub vars_of : Expr → List ℕ
 vars_of expr = fold-Expr (List ℕ) layer_vars expr
+
+-- operands with their variables
+abbrev pub with_vars : {Op : Type 0} → List (Op × Expr) → List (Op × List ℕ)
+with_vars {Op} operands = map (λ (operand : Op × Expr). (operand.0, vars_of operand.1)) operands
 
 abbrev pub layer_whole : Expr-F (Option ℕ) → Option ℕ
 layer_whole (layers.Value value) = None

@@ -1,4 +1,5 @@
 pub mod Binding
 pub mod Closure
+pub mod Heads
 pub mod Rules
 pub mod Waiting

@@ -1,5 +1,5 @@
 -- The rules of binding of a body: which variable is bound where which others are.
-use Rattle.std.specs.Prelude.{ℕ, Bool, List, [], ◌∷◌, ◌++◌, map, Option, Some, None, if◌then◌else◌}
+use Rattle.std.specs.Prelude.{ℕ, Bool, List, [], ◌∷◌, ◌++◌, Option, Some, None, if◌then◌else◌}
 use Rattle.std.specs.List.{flat_map}
 use Rattle.tel_term.specs.declared.exprs.Expr.{Expr}
 use Rattle.tel_rule.specs.declared.statements.Relation.{Relation}

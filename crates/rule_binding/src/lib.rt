@@ -4,3 +4,7 @@
 mod closure;
 mod rules;
 mod state;
+mod tables;
+mod variables;
+
+pub use tables::Tables;

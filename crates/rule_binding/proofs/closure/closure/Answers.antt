@@ -1,4 +1,3 @@
-use Rattle.std.proofs.Common.{◌≡◌}
 use Rattle.rule_binding.proofs.States.{through}
 use Rattle.rule_binding.proofs.closure.closure.Goals as goal
 

@@ -1,9 +1,9 @@
-use Rattle.std.proofs.Common.{◌≡◌, ◌⊎◌, ◌+◌, ◌<◌, ◌++◌, ◌∷◌, [], ℕ, suc, List, length, sym, ap, subst, ◌∙◌, true, false, not, IsTrue, arith, length-append}
+use Rattle.std.proofs.Common.{◌≡◌, ◌⊎◌, ◌+◌, ◌<◌, ◌++◌, ◌∷◌, [], ℕ, List, length, sym, ap, subst, ◌∙◌, true, false, IsTrue, arith, length-append}
 use Rattle.std.specs.Prelude.{slice_set}
 use Rattle.std.specs.List.{list_all}
 use Rattle.rule_binding.specs.Binding.{has}
 use Rattle.rule_binding.specs.Closure.{marked}
-use Rattle.rule_binding.specs.Waiting.{waiting_at, IsState, open_count}
+use Rattle.rule_binding.specs.Waiting.{waiting_at}
 use Rattle.rule_binding.proofs.Marks.{open_count-set}
 use Rattle.rule_binding.proofs.States.{queued_more, drained_more}
 use Rattle.rule_binding.proofs.state.State.bind.Goals as goal

@@ -1,7 +1,5 @@
-use Rattle.std.proofs.Common.{◌≡◌, ◌↔◌, Bool, List, ℕ, IsTrue, sym, subst}
-use Rattle.std.specs.List.{list_all}
+use Rattle.std.proofs.Common.{◌↔◌, Bool, List, IsTrue, sym, subst}
 use Rattle.rule_binding.specs.Binding.{Vars}
-use Rattle.rule_binding.specs.Closure.{keeps_rule}
 use Rattle.rule_binding.specs.Waiting.{Holds, Meets}
 use Rattle.rule_binding.proofs.States.{free_rule, on_ok}
 use Rattle.rule_binding.proofs.state.State.settle.Goals as goal

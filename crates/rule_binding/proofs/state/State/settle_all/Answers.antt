@@ -1,6 +1,5 @@
-use Rattle.std.proofs.Common.{◌≡◌, ◌∙◌, ◌++◌, ◌∷◌, [], ℕ, List, vec_len, IsTrue, refl, sym, subst}
+use Rattle.std.proofs.Common.{◌∙◌, ◌++◌, ◌∷◌, [], ℕ, List, vec_len, IsTrue, refl, sym, subst}
 use Rattle.rule_binding.specs.declared.rules.BindingRule.{BindingRule}
-use Rattle.rule_binding.specs.Binding.{Vars}
 use Rattle.rule_binding.specs.Closure.{keeps}
 use Rattle.rule_binding.specs.Waiting.{is_below, are_below, Meets}
 use Rattle.rule_binding.proofs.States.{all_front, taken_in}
