@@ -1,3 +1,6 @@
 pub mod Marks
 pub mod States
 pub mod Predicates
+pub mod Settings
+pub mod Bodies
+pub mod Examples
