@@ -88,6 +88,13 @@ impl Ground {
         self.rules.get(id)
     }
 
+    /// All rules, by their numbers.
+    pub fn rules(&self) -> &[NRule]
+        ensures { result.now ≡ self.now.rules }
+    {
+        self.rules.as_slice()
+    }
+
     /// The rules with this head, rising.
     pub fn bodies_of(&self, var: u32) -> &[usize]
         ensures { result.now ≡ rules_with self.now.rules var }

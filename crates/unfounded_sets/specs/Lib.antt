@@ -1,0 +1,3 @@
+pub mod Unfounded
+pub mod LoopClauses
+pub mod Least

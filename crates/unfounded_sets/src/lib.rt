@@ -1,0 +1,10 @@
+//! Unfounded sets of the rules under a trail, and their loop clauses.
+#![tactic(auto)]
+
+mod bodies;
+mod founded;
+mod least_scan;
+mod supported;
+
+pub use founded::{Founded, LoopNogood};
+pub use least_scan::LeastScan;
