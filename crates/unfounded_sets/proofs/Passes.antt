@@ -1,8 +1,8 @@
 -- A pass over the rules.
-use Rattle.std.proofs.Common.{◌≡◌, ℕ, zero, suc, ◌+◌, ◌<◌, ◌≤◌, Bool, true, false, cond, not, ◌&&◌, ◌||◌, List, [], ◌∷◌, length, get_or, set, take, refl, sym, ap, subst, inl, inr, ◌∙◌, ⊎_elim, arith, get_or-set_other, get_or-set_same}
-use Rattle.std.specs.Prelude.{◌⊎◌, Option, Some, None, nat_lt, if◌then◌else◌}
+use Rattle.std.proofs.Common.{◌≡◌, ℕ, zero, suc, ◌+◌, ◌<◌, ◌≤◌, Bool, true, false, not, ◌&&◌, ◌||◌, List, [], ◌∷◌, length, get_or, set, take, refl, sym, ap, subst, inl, inr, ◌∙◌, ⊎_elim, arith, get_or-set_other}
+use Rattle.std.specs.Prelude.{Option, Some, None, nat_lt, if◌then◌else◌}
 use Rattle.std.specs.List.{list_all}
-use Rattle.std.proofs.lemmas.List.{length-set, take_more, take_all, get_or_default}
+use Rattle.std.proofs.lemmas.List.{length-set, take_more, take_all}
 use Rattle.std.proofs.lemmas.List.Folds.{list_all-append}
 use Rattle.std.proofs.lemmas.Bool.{and_parts, and_from, or_cases, or_left, or_right, false≢true, cases_Bool, not_from_false, not-true, cases_eq, cond-true, ltb-true}
 use Rattle.normal_program.specs.declared.rules.NRule.{NRule}
@@ -11,7 +11,7 @@ use Rattle.normal_program.specs.Grounds.{Layers, is_head}
 use Rattle.normal_program.specs.StableSets.{Set}
 use Rattle.lit_trail.specs.declared.assignment.Entry.{Entry}
 use Rattle.clause_store.specs.Closure.{In}
-use Rattle.clause_store.proofs.Members.{In-list_all, list_all-from_In}
+use Rattle.clause_store.proofs.Members.{In-list_all}
 use Rattle.unfounded_sets.specs.Unfounded.{head_in, is_false, is_off}
 use Rattle.unfounded_sets.specs.Least.{wanted_below, at, all_of, supports, keeps_rule, is_kept, LeastFrom, missing, AfterPass, gives_new}
 

@@ -1,5 +1,5 @@
 -- The least set of supported variables.
-use Rattle.std.specs.Prelude.{◌≡◌, ℕ, suc, ◌<◌, Bool, true, false, not, ◌&&◌, ◌||◌, List, [], ◌∷◌, slice_index_or, nat_lt, IsTrue}
+use Rattle.std.specs.Prelude.{ℕ, suc, ◌<◌, Bool, true, false, not, ◌&&◌, ◌||◌, List, [], ◌∷◌, slice_index_or, nat_lt, IsTrue}
 use Rattle.std.specs.List.{list_all}
 use Rattle.tel_base.specs.Literals.{lit_of}
 use Rattle.normal_program.specs.declared.rules.NRule.{NRule}

@@ -1,3 +1,4 @@
 pub mod Unfounded
 pub mod LoopClauses
 pub mod Least
+pub mod Marks

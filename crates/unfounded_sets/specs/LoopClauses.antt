@@ -1,5 +1,5 @@
 -- Loop clauses (Lin and Zhao, "ASSAT: computing answer sets of a logic program by SAT solvers", 2004), and the answers of a search for unfounded sets.
-use Rattle.std.specs.Prelude.{◌≡◌, ℕ, Bool, true, false, not, ◌&&◌, List, [], ◌∷◌, map, Option, Some, None, IsTrue, nat_lt, ◌==◌, ◌⊎◌}
+use Rattle.std.specs.Prelude.{◌≡◌, ℕ, Bool, true, not, ◌&&◌, List, [], ◌∷◌, map, Option, Some, None, IsTrue, nat_lt, ◌==◌, ◌⊎◌}
 use Rattle.std.specs.List.{list_all, list_any}
 use Rattle.tel_base.specs.declared.literals.Lit.{Lit}
 use Rattle.tel_base.specs.Literals.{lit_of, negate}

@@ -1,8 +1,39 @@
+use crate::answering::{answer, clear};
+use crate::bounds::above_all;
+use crate::founded::{Founded, LoopNogood};
+use crate::supported::least;
+use lit_trail::Trail;
+use normal_program::Ground;
 use std::alloc::Global;
+use tel_base::Memory;
 
-/// A search for unfounded sets by the least set of supported variables.
+/// A search for the largest unfounded set: what the least set of supported variables leaves. It keeps nothing between calls but
+/// room.
 #[derive(Drop)]
 pub struct LeastScan {
     alloc: Global,
+    /// For each variable whether it was found to be supported.
     found: Vec<bool>,
+    /// For each variable whether the loop clause has it.
+    marks: Vec<bool>,
+}
+
+impl LeastScan {
+    /// A search that has no room yet.
+    pub fn new(alloc: Global) -> LeastScan {
+        LeastScan {
+            alloc,
+            found: Vec::new(alloc),
+            marks: Vec::new(alloc),
+        }
+    }
+}
+
+impl Founded for LeastScan {
+    fn find(&mut self, ground: &Ground, trail: &Trail) -> Result<Option<LoopNogood>, Memory> {
+        let bound = above_all(ground, trail);
+        clear(&mut self.found, bound)?;
+        least(ground, trail, bound, &mut self.found);
+        answer(self.alloc, ground, trail, &self.found, &mut self.marks)
+    }
 }

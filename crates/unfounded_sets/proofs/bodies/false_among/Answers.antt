@@ -1,4 +1,4 @@
-use Rattle.std.proofs.Common.{◌≡◌, ◌∙◌, map}
+use Rattle.std.proofs.Common.{◌∙◌, map}
 use Rattle.tel_base.specs.Literals.{lit_of}
 use Rattle.unfounded_sets.specs.Unfounded.{is_false, no_lit}
 use Rattle.unfounded_sets.proofs.Finding.{find_here, find_past}

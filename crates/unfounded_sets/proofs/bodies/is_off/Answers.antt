@@ -1,4 +1,4 @@
-use Rattle.std.proofs.Common.{◌≡◌, ◌∙◌, ap}
+use Rattle.std.proofs.Common.{◌∙◌, ap}
 use Rattle.std.specs.Prelude.{is_some}
 use Rattle.unfounded_sets.specs.Unfounded.{is_false, body_lits}
 use Rattle.unfounded_sets.proofs.Finding.{some_any}

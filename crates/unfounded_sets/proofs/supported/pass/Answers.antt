@@ -1,6 +1,4 @@
-use Rattle.std.proofs.Common.{◌≡◌, ◌∙◌, ◌<◌, ◌≤◌, List, length, sym, subst, ap, arith}
-use Rattle.normal_program.specs.declared.rules.NRule.{NRule}
-use Rattle.unfounded_sets.proofs.Passes.{step_none, step_some, head_range, pass_end}
+use Rattle.unfounded_sets.proofs.Passes.{step_none, step_some}
 use Rattle.unfounded_sets.specs.Least.{wanted_below}
 use Rattle.unfounded_sets.proofs.supported.pass.Goals as goal
 use Rattle.unfounded_sets.proofs.supported.pass.Goals.{in-Some, in_default}
