@@ -4,4 +4,5 @@ pub mod Limits
 pub mod Marked
 pub mod Unfoundedness
 pub mod Answered
+pub mod Chains
 pub mod Passes

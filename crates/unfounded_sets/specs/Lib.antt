@@ -2,3 +2,4 @@ pub mod Unfounded
 pub mod LoopClauses
 pub mod Least
 pub mod Marks
+pub mod Waiting
