@@ -5,4 +5,5 @@ pub mod Marked
 pub mod Unfoundedness
 pub mod Answered
 pub mod Chains
-pub mod Passes
+pub mod Growing
+pub mod Scans

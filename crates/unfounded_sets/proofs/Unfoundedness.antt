@@ -19,7 +19,7 @@ pub record IsFed (rules : List NRule) (entries : List Entry) (wanted U : Set) : 
   pub within : (v : ℕ) → U v ≡ true → wanted v ≡ true
   pub fed : (rule : NRule) → In rule rules → head_in U rule.head ≡ true → (is_off entries rule || list_any U rule.pos) ≡ true
 
-head_more : (U W : Set) (head : Option ℕ) → ((v : ℕ) → U v ≡ true → W v ≡ true) → head_in U head ≡ true → head_in W head ≡ true
+pub head_more : (U W : Set) (head : Option ℕ) → ((v : ℕ) → U v ≡ true → W v ≡ true) → head_in U head ≡ true → head_in W head ≡ true
 head_more U W None up h = h
 head_more U W (Some head) up h = up head h
 

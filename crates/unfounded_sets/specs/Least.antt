@@ -1,5 +1,5 @@
 -- The least set of supported variables.
-use Rattle.std.specs.Prelude.{ℕ, suc, ◌<◌, Bool, true, false, not, ◌&&◌, ◌||◌, List, [], ◌∷◌, slice_index_or, nat_lt, IsTrue}
+use Rattle.std.specs.Prelude.{ℕ, suc, Bool, true, false, not, ◌&&◌, ◌||◌, List, [], ◌∷◌, slice_index_or, nat_lt, IsTrue}
 use Rattle.std.specs.List.{list_all}
 use Rattle.tel_base.specs.Literals.{lit_of}
 use Rattle.normal_program.specs.declared.rules.NRule.{NRule}
@@ -41,10 +41,3 @@ abbrev pub missing : List Bool → ℕ
 missing [] = 0
 missing (true ∷ more) = missing more
 missing (false ∷ more) = suc (missing more)
-
-abbrev pub gives_new : List Entry → Set → List Bool → NRule → Bool
-gives_new entries wanted found rule = supports entries wanted (at found) rule && not (head_in (at found) rule.head)
-
-abbrev pub AfterPass : List NRule → List Entry → Set → List Bool → List Bool → Bool → Type 0
-AfterPass rules entries wanted old new true = missing new < missing old
-AfterPass rules entries wanted old new false = IsTrue (is_kept rules entries wanted (at new))

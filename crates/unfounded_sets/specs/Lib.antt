@@ -3,3 +3,4 @@ pub mod LoopClauses
 pub mod Least
 pub mod Marks
 pub mod Waiting
+pub mod Scanning

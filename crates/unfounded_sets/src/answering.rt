@@ -1,6 +1,6 @@
 //! The set that is left where all supported variables were found, and its loop clause.
 
-ghost use Rattle.std.specs.Prelude.{◌≡◌, ◌≤◌, ◌^◌, ◌||◌, ◌&&◌, ℕ, IfOk, IsTrue, OnOk, Some, false, length, map, replicate};
+ghost use Rattle.std.specs.Prelude.{◌≡◌, ◌≤◌, ◌^◌, ◌||◌, ◌&&◌, ℕ, IfOk, IsTrue, Some, false, length, map, replicate};
 ghost use Rattle.std.specs.List.{filter, find, list_any, range_with_len};
 ghost use Rattle.unfounded_sets.specs.Unfounded.{is_false, is_true, body_lits};
 ghost use Rattle.unfounded_sets.specs.LoopClauses.{is_outside, Answers, IsFalseLoop};
@@ -9,7 +9,7 @@ ghost use Rattle.unfounded_sets.specs.Marks.{rest_of, all_below, are_below, Belo
 
 use crate::bodies::{false_lit, is_true, is_wanted};
 use crate::founded::LoopNogood;
-use crate::supported::has;
+use crate::tables::{clear, has};
 use lit_trail::Trail;
 use normal_program::{Ground, NRule};
 use std::alloc::Global;
@@ -143,15 +143,6 @@ fn loop_nogood(
     let set = all_left(alloc, ground, trail, found)?;
     let clause = clause_of(alloc, trail, marks)?;
     Ok(LoopNogood { atom, set, clause })
-}
-
-/// Makes a table of so many variables, with none of them in it.
-pub fn clear(table: &mut Vec<bool>, bound: usize) -> Result<(), Memory>
-    ensures { OnOk result (table.new.items ≡ replicate bound false) }
-{
-    table.clear();
-    table.resize(bound, false)?;
-    Ok(())
 }
 
 /// The answer of a search that found all supported variables. It uses the table of marks as room.

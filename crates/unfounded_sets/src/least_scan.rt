@@ -1,7 +1,7 @@
-use crate::answering::{answer, clear};
+use crate::answering::answer;
 use crate::bounds::above_all;
 use crate::founded::{Founded, LoopNogood};
-use crate::supported::least;
+use crate::supported::Support;
 use lit_trail::Trail;
 use normal_program::Ground;
 use std::alloc::Global;
@@ -12,8 +12,7 @@ use tel_base::Memory;
 #[derive(Drop)]
 pub struct LeastScan {
     alloc: Global,
-    /// For each variable whether it was found to be supported.
-    found: Vec<bool>,
+    support: Support,
     /// For each variable whether the loop clause has it.
     marks: Vec<bool>,
 }
@@ -23,7 +22,7 @@ impl LeastScan {
     pub fn new(alloc: Global) -> LeastScan {
         LeastScan {
             alloc,
-            found: Vec::new(alloc),
+            support: Support::new(alloc),
             marks: Vec::new(alloc),
         }
     }
@@ -32,8 +31,13 @@ impl LeastScan {
 impl Founded for LeastScan {
     fn find(&mut self, ground: &Ground, trail: &Trail) -> Result<Option<LoopNogood>, Memory> {
         let bound = above_all(ground, trail);
-        clear(&mut self.found, bound)?;
-        least(ground, trail, bound, &mut self.found);
-        answer(self.alloc, ground, trail, &self.found, &mut self.marks)
+        self.support.find(ground, trail, bound)?;
+        answer(
+            self.alloc,
+            ground,
+            trail,
+            &self.support.found,
+            &mut self.marks,
+        )
     }
 }

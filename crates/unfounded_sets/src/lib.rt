@@ -7,6 +7,7 @@ mod bounds;
 mod founded;
 mod least_scan;
 mod supported;
+mod tables;
 mod waits;
 
 pub use founded::{Founded, LoopNogood};
