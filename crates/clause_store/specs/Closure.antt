@@ -68,3 +68,9 @@ IsSettled X clause = IsTrue (list_any X clause) ⊎ TwoOpen X clause
 pub record IsClosedLevel (clauses : List Clause) (X : Lits) : Type 0 where
   pub one_value : (lit : Lit) → IsTrue (X lit) → IsTrue (X (negate lit)) → ⊥
   pub settled : (clause : Clause) → In clause clauses → IsSettled X clause
+
+-- X is the closure of these literals, and it doesn't conflict
+pub record IsClosure (clauses : List Clause) (start : List Lit) (X : Lits) : Type 0 where
+  pub derived : (lit : Lit) → IsTrue (X lit) → Up clauses start lit
+  pub whole : (lit : Lit) → Up clauses start lit → IsTrue (X lit)
+  pub calm : Conflict clauses start → ⊥

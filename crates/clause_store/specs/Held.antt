@@ -1,5 +1,5 @@
 -- What contracts see of a store: its clauses with their kinds, the reserved number of variables, and its room.
-use Rattle.std.specs.Prelude.{ℕ, Bool, true, not, ◌&&◌, List, [], ◌∷◌, slice_index_or, length, nat_lt, ◌==◌}
+use Rattle.std.specs.Prelude.{ℕ, Bool, true, not, ◌&&◌, List, [], ◌∷◌, map, slice_index_or, length, nat_lt, ◌==◌}
 use Rattle.std.specs.List.{list_all}
 use Rattle.tel_base.specs.declared.literals.Lit.{Lit}
 use Rattle.clause_store.specs.declared.store.ClauseKind.{ClauseKind}
@@ -19,6 +19,14 @@ pub record View : Type 0 where
 -- the clause with this number
 abbrev pub held_at : List Held → ℕ → Held
 held_at clauses place = slice_index_or clauses place (record { kind = kinds.Module; lits = [] })
+
+-- the clauses alone
+abbrev pub clauses_in : List Held → List (List Lit)
+clauses_in held = map (λ (clause : Held). clause.lits) held
+
+-- that with this number
+abbrev pub clause_at : List (List Lit) → ℕ → List Lit
+clause_at clauses place = slice_index_or clauses place []
 
 -- no literal has this variable
 abbrev pub lacks : ℕ → List Lit → Bool

@@ -6,5 +6,5 @@ mod store;
 #[cfg(test)]
 mod tests;
 
-pub use laws::{absorbed_clauses, unit_closure};
+pub use laws::{absorbed_clauses, closed_levels, unit_closure};
 pub use store::{ClauseId, ClauseKind, Store};
