@@ -5,8 +5,9 @@ use Rattle.std.proofs.lemmas.Bool.{cases_Bool, cases_order, false≢true, and_ri
 use Rattle.std.proofs.lemmas.List.{take-append-drop, reverse-append, length-reverse, length-drop, drop_at}
 use Rattle.tel_base.specs.declared.literals.Lit.{Lit}
 use Rattle.lit_trail.specs.declared.assignment.Entry.{Entry}
-use Rattle.lit_trail.specs.Entries.{Assigned, back, top_level, decision_in, is_decided}
-use Rattle.lit_trail.specs.Levels.{AreLevels, AreDecided, IsTrail}
+use Rattle.lit_trail.specs.Entries.{Assigned, spot_in, back, top_level, decision_in, is_decided}
+use Rattle.lit_trail.specs.Levels.{AreLevels, AreOrdered, AreDecided, IsTrail}
+use Rattle.lit_trail.proofs.Ordered.{ordered_given, ordered_decided, ordered_wider, ordered_back}
 
 pub levels_more : (entries : List Entry) (low high : ℕ) → low ≤ high → AreLevels low entries → AreLevels high entries
 levels_more [] low high l h = tt
@@ -33,7 +34,7 @@ pub back_top : (entries : List Entry) (m : ℕ) → top_level entries ≤ m → 
 back_top [] m l = refl
 back_top (entry ∷ older) m l = kept m entry older l
 
-back_back : (entries : List Entry) (l m : ℕ) → l ≤ m → back l (back m entries) ≡ back l entries
+pub back_back : (entries : List Entry) (l m : ℕ) → l ≤ m → back l (back m entries) ≡ back l entries
 back_back [] l m below = refl
 back_back (entry ∷ older) l m below =
     ⊎_elim (λ (over : m < entry.level). ap (back l) (dropped m entry older over) ∙ back_back older l m below ∙ sym (dropped l entry older (omega (arith, over, below)))) (λ (under : entry.level ≤ m). ap (back l) (kept m entry older under)) (order_of m entry)
@@ -133,11 +134,12 @@ decided_given entry entries [] f e h = given entry entries 0 f ∙ h
 decided_given entry entries (decision ∷ lower) f e h =
     (subst (λ (es : List Entry). AreDecided es lower) (sym (dropped (length lower) entry entries (omega (arith, e)))) h.0, given entry entries (length lower + 1) f ∙ h.1, h.2)
 
-pub imply_trail : (old new : Assigned) (decisions : List (Option Lit)) (room : ℕ) (entry : Entry) → IsTrail old decisions room → new.entries ≡ entry ∷ old.entries → new.vars ≡ old.vars → length new.entries ≤ new.vars → entry.level ≡ length decisions → is_decided entry.reason ≡ false → IsTrail new decisions room
-imply_trail old new decisions room entry trail is same short at reason =
+pub imply_trail : (old new : Assigned) (decisions : List (Option Lit)) (room : ℕ) (entry : Entry) → IsTrail old decisions room → new.entries ≡ entry ∷ old.entries → new.vars ≡ old.vars → length new.entries ≤ new.vars → entry.level ≡ length decisions → is_decided entry.reason ≡ false → spot_in old.entries entry.lit.var ≡ None → entry.lit.var < old.vars → IsTrail new decisions room
+imply_trail old new decisions room entry trail is same short at reason free within =
     let some = trail.some in
     let small = trail.small in
     record {
+      ordered = subst (λ (es : List Entry). AreOrdered new.vars es) (sym is) (subst (λ (n : ℕ). AreOrdered n (entry ∷ old.entries)) (sym same) (ordered_given old.vars entry old.entries free within (λ none. absurd (false≢true (sym reason ∙ ap is_decided none))) trail.ordered));
       levels = subst (AreLevels (length decisions)) (sym is) (omega (arith, at), levels_more old.entries (length decisions) entry.level (omega (arith, at)) trail.levels);
       decided = subst (λ (es : List Entry). AreDecided es decisions) (sym is) (decided_given entry old.entries decisions reason at trail.decided);
       short = short;
@@ -146,8 +148,8 @@ imply_trail old new decisions room entry trail is same short at reason =
       small = omega (arith, small, same);
     }
 
-pub decide_trail : (old new : Assigned) (decisions : List (Option Lit)) (room more : ℕ) (lit : Lit) → IsTrail old decisions room → new.entries ≡ record { lit = lit; level = length decisions + 1; reason = None } ∷ old.entries → new.vars ≡ old.vars → length new.entries ≤ new.vars → room ≤ more → IsTrail new (Some lit ∷ decisions) more
-decide_trail old new decisions room more lit trail is same short wider =
+pub decide_trail : (old new : Assigned) (decisions : List (Option Lit)) (room more : ℕ) (lit : Lit) → IsTrail old decisions room → new.entries ≡ record { lit = lit; level = length decisions + 1; reason = None } ∷ old.entries → new.vars ≡ old.vars → length new.entries ≤ new.vars → room ≤ more → spot_in old.entries lit.var ≡ None → lit.var < old.vars → IsTrail new (Some lit ∷ decisions) more
+decide_trail old new decisions room more lit trail is same short wider free within =
     let entry : Entry = record { lit = lit; level = length decisions + 1; reason = None } in
     let count = few old.entries decisions trail.levels trail.decided in
     let small = trail.small in
@@ -155,6 +157,7 @@ decide_trail old new decisions room more lit trail is same short wider =
     let rest : back (length decisions) (entry ∷ old.entries) ≡ old.entries = dropped (length decisions) entry old.entries (omega arith) ∙ back_all old.entries (length decisions) (length decisions) trail.levels (omega arith) in
     let found : decision_in (entry ∷ old.entries) (length decisions + 1) ≡ Some lit = cond-true ((entry.level == (length decisions + 1)) && true) (Some lit) (decision_in old.entries (length decisions + 1)) (ap (λ (b : Bool). b && true) (eq-eqb (length decisions + 1) (length decisions + 1) refl)) in
     record {
+      ordered = subst (λ (es : List Entry). AreOrdered new.vars es) (sym is) (subst (λ (n : ℕ). AreOrdered n (entry ∷ old.entries)) (sym same) (ordered_decided old.vars (length decisions) entry old.entries free within trail.levels (omega arith) trail.ordered));
       levels = subst (AreLevels (suc (length decisions))) (sym is) (omega arith, levels_more old.entries (length decisions) (length decisions + 1) (omega arith) trail.levels);
       decided = subst (λ (es : List Entry). AreDecided es (Some lit ∷ decisions)) (sym is) (subst (λ (es : List Entry). AreDecided es decisions) (sym rest) trail.decided, found, λ none. absurd (cc));
       short = short;
@@ -175,6 +178,7 @@ pub open_trail : (old : Assigned) (room more : ℕ) → IsTrail old [] room → 
 open_trail old room more trail wider =
     let small = trail.small in
     record {
+      ordered = trail.ordered;
       levels = levels_more old.entries 0 1 (omega arith) trail.levels;
       decided = (subst (λ (es : List Entry). decision_in es 0 ≡ None) (sym (back_all old.entries 0 0 trail.levels (omega arith))) trail.decided, decision_above old.entries 0 1 trail.levels (omega arith), λ none. refl);
       short = trail.short;
@@ -190,6 +194,7 @@ grow_trail old new decisions room more vars trail is bigger wider enough below =
     let short = trail.short in
     let n = ap length is in
     record {
+      ordered = subst (λ (es : List Entry). AreOrdered new.vars es) (sym is) (ordered_wider old.vars new.vars old.entries (omega (arith, bigger)) trail.ordered);
       levels = subst (AreLevels (length decisions)) (sym is) trail.levels;
       decided = subst (λ (es : List Entry). AreDecided es decisions) (sym is) trail.decided;
       short = omega (arith, short, n, bigger);
@@ -210,6 +215,7 @@ back_trail old new decisions room l trail is same below =
     let left = length-drop (length decisions - l) decisions in
     let count : length (drop (length decisions - l) decisions) ≡ l = omega (arith, left, below) in
     record {
+      ordered = subst (λ (es : List Entry). AreOrdered new.vars es) (sym is) (subst (λ (n : ℕ). AreOrdered n (back l old.entries)) (sym same) (ordered_back old.vars l old.entries trail.ordered));
       levels = subst (λ (m : ℕ). AreLevels m new.entries) (sym count) (subst (AreLevels l) (sym is) (back_levels old.entries (length decisions) l trail.levels));
       decided = subst (λ (es : List Entry). AreDecided es (drop (length decisions - l) decisions)) (sym is) (decided_back old.entries decisions l trail.levels trail.decided below);
       short = omega (arith, short, n, fewer, same);

@@ -77,6 +77,33 @@ impl Assignment {
         Ok(())
     }
 
+    /// How many literals there are.
+    pub fn len(&self) -> usize
+        ensures { result ≡ length self.now.entries }
+    {
+        self.order.len()
+    }
+
+    /// The literal at a place, counted from the last one, with its level and reason.
+    pub fn entry(&self, place: usize) -> Entry
+        requires { place < length self.now.entries }
+        ensures { result ≡ slice_index_or self.now.entries place result }
+    {
+        let lit = self.order[self.order.len() - 1 - place];
+        match self.table[lit.var as usize] {
+            Some(spot) => Entry {
+                lit,
+                level: spot.level,
+                reason: spot.reason,
+            },
+            None => Entry {
+                lit,
+                level: 0,
+                reason: None,
+            },
+        }
+    }
+
     /// What is known of a variable; `None` where it has no value.
     pub fn spot(&self, var: u32) -> Option<Spot>
         ensures { result ≡ spot_in self.now.entries var }

@@ -1,10 +1,13 @@
 //! The trail of a search.
 
-ghost use Rattle.std.specs.Prelude.{◌≡◌, ℕ, ◌+◌, ◌<◌, ◌≤◌, ◌^◌, [], ◌∷◌, map, max, reverse, Some, None, length, OnOk, OnErr};
+ghost use Rattle.std.specs.Prelude.{◌≡◌, ℕ, ◌+◌, ◌<◌, ◌≤◌, ◌^◌, [], ◌∷◌, List, map, max, reverse, slice_index_or, Some, None, length, OnOk, OnErr};
+ghost use Rattle.clause_store.specs.Closure.{Clause};
 ghost use Rattle.lit_trail.specs.Unassigned.{first_open};
+ghost use Rattle.lit_trail.specs.Levels.{AreLevels, AreOrdered};
+ghost use Rattle.lit_trail.specs.Sound.{IsSound, Keeps, KeepsClosed, KeepsByReason};
 ghost use Rattle.lit_trail.specs.Entries.{value_in, level_in, reason_in, spot_in, decision_in, back};
 
-use crate::assignment::Assignment;
+use crate::assignment::{Assignment, Entry};
 use crate::unassigned::{first_from, states_below};
 use atom_space::AtomSpace;
 use clause_store::ClauseId;
@@ -14,6 +17,9 @@ use tel_base::{Lit, Memory};
 
 /// The literals that hold, in the order of their assignment. Level 0 has what holds without a decision; each further level
 /// begins with a decision, but level 1 may be opened without one.
+///
+/// Under the clauses of a search a trail is sound where each implied literal has its reason, and the literals up to each level below
+/// the trail's are the closure of the decisions up to it. Each call says what it keeps of that.
 ///
 /// Contracts see the level, the entries, the last one first, and the number of variables that the trail has grown to.
 #[derive(Drop)]
@@ -41,6 +47,7 @@ impl Trail {
         ensures entries { result.entries ≡ [] }
         ensures vars { result.vars ≡ 0 }
         ensures level { result.level ≡ 0 }
+        ensures sound { (clauses : List Clause) → IsSound clauses result }
     {
         Trail {
             assignment: Assignment::new(alloc),
@@ -56,6 +63,7 @@ impl Trail {
         ensures level { self.new.level ≡ self.old.level }
         ensures vars { OnOk result (self.new.vars ≡ max self.old.vars vars) }
         ensures err { OnErr result (self.new.vars ≡ self.old.vars) }
+        ensures keeps { Keeps self.old self.new }
     {
         if vars > 0 {
             self.decisions.reserve(vars as usize + 1)?;
@@ -69,6 +77,25 @@ impl Trail {
         ensures { result ≡ self.now.level }
     {
         self.decisions.len() as u32
+    }
+
+    /// How many literals hold.
+    pub fn len(&self) -> usize
+        ensures count { result ≡ length self.now.entries }
+        ensures few { length self.now.entries ≤ self.now.vars }
+        ensures small { self.now.vars + 1 < 2 ^ 32 }
+        ensures ordered { AreOrdered self.now.vars self.now.entries }
+        ensures levels { AreLevels self.now.level self.now.entries }
+    {
+        self.assignment.len()
+    }
+
+    /// The literal at a place, counted from the last one, with its level and reason.
+    pub fn entry(&self, place: usize) -> Entry
+        requires { place < length self.now.entries }
+        ensures { result ≡ slice_index_or self.now.entries place result }
+    {
+        self.assignment.entry(place)
     }
 
     /// The value of a literal; `None` where its variable has none.
@@ -130,6 +157,7 @@ impl Trail {
         ensures vars { self.new.vars ≡ self.old.vars }
         ensures level { self.new.level ≡ self.old.level }
         ensures room { length self.new.entries ≤ self.new.vars }
+        ensures keeps { KeepsByReason lit reason self.old self.new }
     {
         let level = self.level();
         self.assignment.put(lit, level, Some(reason));
@@ -142,6 +170,7 @@ impl Trail {
         ensures entries { self.new.entries ≡ record { lit = lit; level = self.old.level + 1; reason = None } ∷ self.old.entries }
         ensures vars { self.new.vars ≡ self.old.vars }
         ensures level { self.new.level ≡ self.old.level + 1 }
+        ensures keeps { KeepsClosed self.old self.new }
     {
         self.assignment.leaves_room(lit.var);
         let level = self.level() + 1;
@@ -159,6 +188,7 @@ impl Trail {
         ensures entries { self.new.entries ≡ self.old.entries }
         ensures vars { self.new.vars ≡ self.old.vars }
         ensures level { self.new.level ≡ 1 }
+        ensures keeps { KeepsClosed self.old self.new }
     {
         match self.decisions.push(None) {
             Ok(()) => {}
@@ -172,6 +202,7 @@ impl Trail {
         ensures entries { self.new.entries ≡ back level self.old.entries }
         ensures vars { self.new.vars ≡ self.old.vars }
         ensures level { self.new.level ≡ level }
+        ensures keeps { Keeps self.old self.new }
     {
         'popping: while self.assignment.top() > level {
             self.assignment.pop();

@@ -1,4 +1,4 @@
-use Rattle.std.proofs.Common.{◌≡◌, ◌∙◌, ◌<◌, ◌≤◌, ℕ, sym, ap, subst, true, false}
+use Rattle.std.proofs.Common.{◌∙◌, ◌<◌, ◌≤◌, ℕ, sym, ap, subst, true, false}
 use Rattle.std.specs.Prelude.{Some}
 use Rattle.atom_space.specs.Numbers.{Space, visible}
 use Rattle.lit_trail.specs.Unassigned.{is_open}

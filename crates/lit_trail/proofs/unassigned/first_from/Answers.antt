@@ -1,4 +1,4 @@
-use Rattle.std.proofs.Common.{◌≡◌, ◌∙◌, ◌/◌, refl, sym}
+use Rattle.std.proofs.Common.{◌∙◌, ◌/◌, refl, sym}
 use Rattle.lit_trail.specs.Unassigned.{is_open, visible_at}
 use Rattle.lit_trail.proofs.OpenStates.{state_past, state_here, state_end, settled_start, settled_closed}
 use Rattle.lit_trail.proofs.unassigned.first_from.Goals as goal

@@ -1,4 +1,4 @@
-use Rattle.std.proofs.Common.{◌≡◌, ◌<◌, ◌≤◌, ⊎_elim, sym, ap, ◌∙◌, get_or}
+use Rattle.std.proofs.Common.{◌<◌, ◌≤◌, ⊎_elim, sym, ap, ◌∙◌, get_or}
 use Rattle.std.specs.Prelude.{None, is_some}
 use Rattle.std.proofs.lemmas.Bool.{cases_lt}
 use Rattle.lit_trail.proofs.assignment.Assignment.settle.Goals as goal

@@ -1,4 +1,4 @@
-use Rattle.std.proofs.Common.{◌≡◌, sym, ap, ◌∙◌}
+use Rattle.std.proofs.Common.{sym, ap, ◌∙◌}
 use Rattle.std.specs.Prelude.{is_some}
 use Rattle.lit_trail.specs.Entries.{Assigned, spot_in}
 use Rattle.lit_trail.proofs.assignment.Assignment.settled.Goals as goal
