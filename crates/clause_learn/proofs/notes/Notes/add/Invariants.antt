@@ -1,0 +1,14 @@
+use Rattle.std.proofs.Common.{◌≡◌, ◌≤◌, drop, length}
+use Rattle.std.specs.Prelude.{vec_capacity}
+use Rattle.clause_store.specs.Closure.{Lits}
+use Rattle.clause_learn.specs.Noted.{AreReady, MarksStay, IsNoted, joined}
+use Rattle.clause_learn.proofs.notes.Notes.add.Given as goal
+
+abbrev pub invariant-loop-lit : goal.invariant-loop-lit
+invariant-loop-lit l = record {
+  ready : AreReady l.trail l.self;
+  marks : MarksStay l.initial.self l.self;
+  size : length l.self.marks.items ≡ length l.initial.self.marks.items;
+  capacity : vec_capacity l.initial.self.lits ≤ vec_capacity l.self.lits;
+  noted : (set : Lits) → IsNoted l.trail set l.initial.self → (now : Lits) × IsNoted l.trail now l.self × (joined l.trail.entries now (drop l.lit-index l.clause) ≡ joined l.trail.entries set l.clause);
+}

@@ -1,0 +1,5 @@
+pub mod FirstUip
+pub mod LearntClause
+pub mod Room
+pub mod Noted
+pub mod Lending
