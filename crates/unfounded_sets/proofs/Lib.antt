@@ -7,3 +7,4 @@ pub mod Answered
 pub mod Chains
 pub mod Growing
 pub mod Scans
+pub mod Examples
