@@ -3,3 +3,4 @@ pub mod Shapes
 pub mod Numbering
 pub mod Grounds
 pub mod StableSets
+pub mod ModuleClauses

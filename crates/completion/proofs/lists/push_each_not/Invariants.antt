@@ -1,0 +1,7 @@
+use Rattle.std.proofs.Common.{◌≡◌, ◌++◌, ◌∷◌, [], map, drop}
+use Rattle.tel_base.specs.declared.literals.Lit.{Lit}
+use Rattle.tel_base.specs.Literals.{negate}
+use Rattle.completion.proofs.lists.push_each_not.Given as goal
+
+abbrev pub invariant-loop-lit : goal.invariant-loop-lit
+invariant-loop-lit l = l.clauses.items ++ map (λ (lit : Lit). l.first ∷ negate lit ∷ []) (drop l.lit-index l.lits) ≡ l.initial.clauses.items ++ map (λ (lit : Lit). l.first ∷ negate lit ∷ []) l.lits

@@ -1,0 +1,19 @@
+use Rattle.std.proofs.Common.{rules, ◌≡◌, List, sym, ap, ◌∙◌, subst}
+use Rattle.std.proofs.lemmas.Result.{IfOk-weaker}
+use Rattle.std.proofs.lemmas.List.Sorted.{IsNonDecreasingBy-from_sort_by_key}
+use Rattle.std.specs.List.Sorted.{IsNonDecreasingBy}
+use Rattle.tel_base.specs.declared.literals.Lit.{Lit}
+use Rattle.normal_program.specs.ModuleClauses.{rank, in_order}
+use Rattle.completion.proofs.Orders.{permuted_order}
+use Rattle.completion.proofs.ordering.in_order.Goals as goal
+
+pub once-requires : goal.once-requires
+once-requires c =
+    subst (λ (xs : List Lit). IsNonDecreasingBy rank xs) (sym c.as_slice.ensures.value)
+    (IsNonDecreasingBy-from_sort_by_key rank _ c.sort_unstable_by_key.ensures.sorted (λ a r q k. search rules))
+
+pub returns : goal.returns
+returns c =
+    IfOk-weaker c.once.result _ (λ order. order.items ≡ in_order c.args.lits.items)
+    (λ order same. same ∙ ap in_order c.as_slice.ensures.value ∙ sym (permuted_order c.args.lits.items _ c.sort_unstable_by_key.ensures.permutation))
+    c.once.ensures
