@@ -1,3 +1,4 @@
+pub mod Examples
 pub mod Fronts
 pub mod Orders
 pub mod SupportRows
