@@ -4,6 +4,7 @@ use Rattle.std.specs.Prelude.{◌≡◌, Bool, false, not, ◌&&◌, ◌||◌, L
 use Rattle.std.specs.List.{list_all, list_any, filter}
 use Rattle.tel_base.specs.declared.literals.Lit.{Lit}
 use Rattle.tel_base.specs.Literals.{negate}
+pub use Rattle.tel_base.specs.Literals.{negations}
 pub use Rattle.tel_base.specs.Members.{In}
 
 abbrev pub Clause : Type 0
@@ -12,9 +13,6 @@ Clause = List Lit
 -- a set of literals
 abbrev pub Lits : Type 0
 Lits = Lit → Bool
-
-abbrev pub negations : Clause → List Lit
-negations clause = map negate clause
 
 abbrev pub same_lit : Lit → Lit → Bool
 same_lit a b = (a.var == b.var) && (if a.positive then b.positive else not b.positive)

@@ -1,8 +1,7 @@
 //! Lists of clauses: as they are stated, and in order.
 ghost use Rattle.std.specs.Prelude.{◌≡◌, ◌++◌, ◌∷◌, [], OnOk, map};
 ghost use Rattle.tel_base.specs.declared.literals.Lit.{Lit};
-ghost use Rattle.tel_base.specs.Literals.{negate};
-ghost use Rattle.normal_program.specs.ModuleClauses.{negations};
+ghost use Rattle.tel_base.specs.Literals.{negate, negations};
 
 use std::alloc::Global;
 use tel_base::{Clause, Lit, Memory};

@@ -3,7 +3,7 @@
 use Rattle.std.specs.Prelude.{ℕ, ◌+◌, Bool, true, false, ◌||◌, ◌==◌, List, [], ◌∷◌, ◌++◌, map, length, drop, Option, Some, None, nat_lt, if◌then◌else◌}
 use Rattle.std.specs.List.{filter, flat_map}
 use Rattle.tel_base.specs.declared.literals.Lit.{Lit}
-use Rattle.tel_base.specs.Literals.{lit_of, negate}
+use Rattle.tel_base.specs.Literals.{lit_of, negate, negations}
 use Rattle.normal_program.specs.declared.rules.NRule.{NRule}
 use Rattle.normal_program.specs.declared.shapes.Shape.{Shape}
 use Rattle.normal_program.specs.declared.shapes.Shape.TheVariants as shapes
@@ -40,9 +40,6 @@ abbrev pub listed : List Lit → List (List Lit)
 listed lits = if has_both (in_order lits) then [] else in_order lits ∷ []
 
 -- ---- the clauses, before they are put in order
-
-abbrev pub negations : List Lit → List Lit
-negations lits = map negate lits
 
 -- a variable and its negation
 abbrev pub no_lit : ℕ → Lit

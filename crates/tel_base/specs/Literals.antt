@@ -1,5 +1,5 @@
 -- Literals: a variable, or its negation.
-use Rattle.std.specs.Prelude.{ℕ, true, not}
+use Rattle.std.specs.Prelude.{ℕ, true, not, List, map}
 use Rattle.tel_base.specs.declared.literals.Lit.{Lit}
 
 -- the variable itself
@@ -9,3 +9,6 @@ lit_of var = record { var = var; positive = true }
 -- the opposite literal
 abbrev pub negate : Lit → Lit
 negate lit = record { var = lit.var; positive = not lit.positive }
+
+abbrev pub negations : List Lit → List Lit
+negations lits = map negate lits

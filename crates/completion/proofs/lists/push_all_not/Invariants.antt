@@ -1,5 +1,5 @@
 use Rattle.std.proofs.Common.{◌≡◌, ◌++◌, ◌∷◌, drop}
-use Rattle.normal_program.specs.ModuleClauses.{negations}
+use Rattle.tel_base.specs.Literals.{negations}
 use Rattle.completion.proofs.lists.push_all_not.Given as goal
 
 abbrev pub invariant-loop-lit : goal.invariant-loop-lit
