@@ -1,0 +1,2 @@
+pub mod ExprLayers
+mod Examples
