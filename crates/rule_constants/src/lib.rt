@@ -4,3 +4,4 @@
 ghost use Rattle.rule_constants.specs.Replaced.{AreValues};
 
 mod exprs;
+mod programs;
