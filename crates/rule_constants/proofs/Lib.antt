@@ -1,2 +1,3 @@
 pub mod ExprLayers
 mod Examples
+pub mod Rounds

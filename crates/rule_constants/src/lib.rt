@@ -4,4 +4,7 @@
 ghost use Rattle.rule_constants.specs.Replaced.{AreValues};
 
 mod exprs;
+mod laws;
 mod programs;
+
+pub use laws::values_of_constants;
