@@ -1,3 +1,4 @@
 pub mod ExprLayers
 mod Examples
 pub mod Rounds
+pub mod Walks

@@ -88,6 +88,11 @@ passes false x v h = absurd cc
 passed : (test : Bool) (x : Option Value) → test ≡ true → (if test then x else None) ≡ x
 passed test x is = rw is refl
 
+-- the value of a definition without variables, where all that it names have values
+pub defined_known : (links : List (Option ℕ)) (K : Values) (expr : Expr) → has_variable expr ≡ false → all_known K (needs_of links expr) ≡ true → defined_value links K expr ≡ ok_value (expr_value [] (expr_replaced (replacement links K) expr))
+defined_known links K expr none known =
+    passed (not (has_variable expr) && all_known K (needs_of links expr)) (ok_value (expr_value [] (expr_replaced (replacement links K) expr))) (and_from (not (has_variable expr)) (all_known K (needs_of links expr)) (ap not none) known)
+
 pub defined-grows : (links : List (Option ℕ)) (K L : Values) (expr : Expr) (v : Value) → BelowOn (needs_of links expr) K L → defined_value links K expr ≡ Some v → defined_value links L expr ≡ Some v
 defined-grows links K L expr v below h =
     let needs = needs_of links expr in

@@ -46,3 +46,8 @@ pub record IsSettled (statements : List Statement) (links : List (Option ℕ)) (
 -- what is known stays known
 abbrev pub Grows : List (Option Value) → List (Option Value) → Type 0
 Grows old new = (number : ℕ) → is_some (by_number old number) ≡ true → is_some (by_number new number) ≡ true
+
+-- what a search for the value of a definition gives: where there is one, it is known, and all that was known
+abbrev pub Solves : List Statement → List (Option ℕ) → List (Option Value) → ℕ → Bool → List (Option Value) → List Bool → Type 0
+Solves statements links old start true known tried = IsSettled statements links known tried × Grows old known × (is_some (by_number known start) ≡ true)
+Solves statements links old start false known tried = HasNone statements links start
