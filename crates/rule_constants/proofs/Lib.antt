@@ -2,3 +2,4 @@ pub mod ExprLayers
 mod Examples
 pub mod Rounds
 pub mod Walks
+pub mod Definitions

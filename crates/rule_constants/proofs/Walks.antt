@@ -1,19 +1,19 @@
 -- The search for the value of a definition: each definition on the way names the next one.
-use Rattle.std.proofs.Common.{◌≡◌, ◌≢◌, ℕ, zero, suc, ◌+◌, ◌*◌, ◌<◌, ◌≤◌, Bool, true, false, not, List, [], ◌∷◌, ◌++◌, length, map, take, get_or, set, Option, Some, None, refl, sym, ap, subst, ◌∙◌, ◌⊎◌, inl, inr, ⊎_elim, arith}
-use Rattle.std.specs.Prelude.{⊤, ◌&&◌, is_some, slice_get, slice_index_or, slice_set}
+use Rattle.std.proofs.Common.{◌≡◌, ◌≢◌, ℕ, zero, suc, ◌+◌, ◌<◌, ◌≤◌, Bool, true, false, List, [], ◌∷◌, ◌++◌, length, map, take, get_or, set, Option, Some, None, refl, sym, ap, subst, ◌∙◌, ◌⊎◌, inl, inr, ⊎_elim, arith}
+use Rattle.std.specs.Prelude.{⊤, is_some, slice_get, slice_index_or}
 use Rattle.std.specs.List.{list_all}
-use Rattle.std.proofs.lemmas.Bool.{and_parts, and_from, cases_Bool, false≢true, cases_eq}
+use Rattle.std.proofs.lemmas.Bool.{and_from, false≢true, cases_eq}
 use Rattle.std.proofs.lemmas.List.{take_more, take_all, length-set, get_or-set_same, get_or-set_other}
 use Rattle.std.proofs.lemmas.List.Folds.{list_all-append}
 use Rattle.std.proofs.lemmas.List.{map-append}
-use Rattle.tel_semantics.proofs.Members.{In, In-append_left, In-append_right, In-append_cases, In-list_all, list_all-from_In, In-map, In-get_or}
+use Rattle.tel_semantics.proofs.Members.{In, In-append_left, In-append_right, In-append_cases, In-list_all, list_all-from_In}
 use Rattle.tel_term.specs.declared.terms.Value.{Value}
 use Rattle.tel_rule.specs.declared.statements.Statement.{Statement}
 use Rattle.rule_constants.specs.declared.solving.Step.{Step}
 use Rattle.rule_constants.specs.Constants.{Values, all_known, next_values, values_after, statement_value}
 use Rattle.rule_constants.specs.Operands.{by_number}
 use Rattle.rule_constants.specs.Solving.{definition_needs, HasNone, AreSound, untried, IsSettled, Grows, Solves}
-use Rattle.rule_constants.proofs.Rounds.{BelowOn, next-grows, stays, none_inside, none_by_itself}
+use Rattle.rule_constants.proofs.Rounds.{next-grows, stays, none_inside, none_by_itself}
 
 -- one more is known
 pub known_more : (K : Values) (needs : List ℕ) (next : ℕ) → next < length needs → is_some (K (get_or needs next 0)) ≡ true → all_known K (take next needs) ≡ true → all_known K (take (next + 1) needs) ≡ true
@@ -163,6 +163,7 @@ module _ (statements : List Statement) (links : List (Option ℕ)) where
     where
       here : values_after statements links (suc sound.0) d ≡ Some v
       here = next-grows statements links (by_number known) (values_after statements links sound.0) d v (λ m i x y. sound.1 m x y) is
+
       of : (n : ℕ) (w : Value) → by_number (set known d (Some v)) n ≡ Some w → (n ≡ d) ⊎ (n ≢ d) → values_after statements links (suc sound.0) n ≡ Some w
       of n w e (inl same) =
           let at : by_number (set known d (Some v)) n ≡ Some v = ap (by_number (set known d (Some v))) same ∙ known_now known d v l in
@@ -179,7 +180,7 @@ module _ (statements : List Statement) (links : List (Option ℕ)) where
         needs_are = needs_is ∙ ap (definition_needs statements links) (sym def_is);
         next_in = omega (arith, next_is);
         before = ap (λ (k : ℕ). all_known (by_number known) (take k step.needs)) next_is;
-        there = omega (arith, def_is, there)
+        there = omega (arith, def_is, there);
       }
 
   pub walk-init : (start : ℕ) (known : List (Option Value)) (tried : List Bool) (top : Step) → IsSettled statements links known tried → start < length statements → top.definition ≡ start → top.needs ≡ definition_needs statements links start → top.next ≡ 0 → IsWalk start known known (set tried start true) [] top
@@ -193,7 +194,7 @@ module _ (statements : List Statement) (links : List (Option ℕ)) where
         chain = tt;
         first = def_is;
         top_step = first_step known top start def_is needs_is next_is there;
-        steps = λ step i. absurd i
+        steps = λ step i. absurd i;
       }
 
   abbrev pub moved : Step → ℕ → Step
@@ -210,7 +211,7 @@ module _ (statements : List Statement) (links : List (Option ℕ)) where
         chain = walk.chain;
         first = walk.first;
         top_step = record { needs_are = walk.top_step.needs_are; next_in = within; before = known_is walk.top_step.before; there = walk.top_step.there };
-        steps = walk.steps
+        steps = walk.steps;
       }
 
   pub walk-down : (start : ℕ) (old known : List (Option Value)) (tried : List Bool) (below : List Step) (top above : Step) (need : ℕ) → IsWalk start old known tried below top → In need top.needs → slice_index_or tried need true ≡ false → above.definition ≡ need → above.needs ≡ definition_needs statements links need → above.next ≡ 0 → IsWalk start old known (set tried need true) (below ++ top ∷ []) above
@@ -227,7 +228,7 @@ module _ (statements : List Statement) (links : List (Option ℕ)) where
         chain = subst (λ (ns : List ℕ). IsChain (definition_needs statements links) ns above.definition) (sym path) (chain-more (definition_needs statements links) (definitions below) top.definition above.definition walk.chain named);
         first = ap (first_or above.definition) path ∙ first-more (definitions below) top.definition above.definition ∙ walk.first;
         top_step = first_step known above need def_is needs_is next_is there;
-        steps = λ step j. ⊎_elim (λ m. walk.steps step m) (λ m. ⊎_elim (λ (e : top ≡ step). subst (λ (s : Step). IsStep known s) e walk.top_step) (λ none. absurd none) m) (In-append_cases step below (top ∷ []) j)
+        steps = λ step j. ⊎_elim (λ m. walk.steps step m) (λ m. ⊎_elim (λ (e : top ≡ step). subst (λ (s : Step). IsStep known s) e walk.top_step) (λ none. absurd none) m) (In-append_cases step below (top ∷ []) j);
       }
 
   pub walk-up : (start : ℕ) (old known : List (Option Value)) (tried : List Bool) (rest : List Step) (top step : Step) (v : Value) → IsWalk start old known tried (rest ++ step ∷ []) top → next_values statements links (by_number known) top.definition ≡ Some v → IsWalk start old (set known top.definition (Some v)) tried rest step
@@ -246,7 +247,7 @@ module _ (statements : List Statement) (links : List (Option ℕ)) where
         chain = chain-less (definition_needs statements links) (definitions rest) step.definition top.definition chain;
         first = sym (first-more (definitions rest) step.definition top.definition) ∙ ap (first_or top.definition) (sym path) ∙ walk.first;
         top_step = step-grows known (set known top.definition (Some v)) step more (walk.steps step (In-append_right step rest (step ∷ []) (inl refl)));
-        steps = λ s i. step-grows known (set known top.definition (Some v)) s more (walk.steps s (In-append_left s rest (step ∷ []) i))
+        steps = λ s i. step-grows known (set known top.definition (Some v)) s more (walk.steps s (In-append_left s rest (step ∷ []) i));
       }
 
   pub walk-done : (start : ℕ) (old known : List (Option Value)) (tried : List Bool) (top : Step) (v : Value) → IsWalk start old known tried [] top → next_values statements links (by_number known) top.definition ≡ Some v → Solves statements links old start true (set known top.definition (Some v)) tried
@@ -258,6 +259,6 @@ module _ (statements : List Statement) (links : List (Option ℕ)) where
         known_count = length-set known top.definition (Some v) ∙ walk.known_count;
         tried_count = walk.tried_count;
         sound = sound-set known top.definition v there walk.sound is;
-        settled = λ n t. ⊎_elim (λ k. more n k) (λ m. ⊎_elim (λ (e : top.definition ≡ n). subst (λ (x : ℕ). is_some (by_number (set known top.definition (Some v)) x) ≡ true) e now) (λ none. absurd none) m) (walk.waiting n t)
+        settled = λ n t. ⊎_elim (λ k. more n k) (λ m. ⊎_elim (λ (e : top.definition ≡ n). subst (λ (x : ℕ). is_some (by_number (set known top.definition (Some v)) x) ≡ true) e now) (λ none. absurd none) m) (walk.waiting n t);
       } in
       (settled, λ n k. more n (walk.grows n k), subst (λ (x : ℕ). is_some (by_number (set known top.definition (Some v)) x) ≡ true) walk.first now)

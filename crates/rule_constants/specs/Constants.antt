@@ -1,5 +1,5 @@
 -- Constants of a program: which statement defines a name, what a definition rests on, and which value it has.
-use Rattle.std.specs.Prelude.{◌≡◌, ⊤, ◌⊎◌, ℕ, zero, suc, Bool, true, false, not, ◌&&◌, ◌||◌, List, [], ◌∷◌, ◌++◌, map, Option, Some, None, Ok, Err, is_some, if◌then◌else◌, slice_get, slice_index_or, bytes_eq}
+use Rattle.std.specs.Prelude.{◌≡◌, ⊤, ◌⊎◌, ◌<◌, ℕ, zero, suc, Bool, true, false, not, ◌&&◌, ◌||◌, List, [], ◌∷◌, ◌++◌, map, Option, Some, None, Ok, Err, is_some, if◌then◌else◌, slice_get, slice_index_or, bytes_eq}
 use Rattle.std.specs.List.{list_all}
 use Rattle.std.specs.Option.{option_map}
 use Rattle.tel_term.specs.declared.terms.Term.{Term}
@@ -20,7 +20,7 @@ use Rattle.tel_rule.specs.declared.statements.Statement.{Statement}
 
 -- whether a statement defines this name
 abbrev pub defines : List ℕ → Kind → Bool
-defines name (kinds.Const defined expr) = bytes_eq name defined
+defines name (kinds.Const defined expr) = bytes_eq defined name
 defines name (kinds.Rule head body) = false
 defines name (kinds.Facts fact) = false
 defines name (kinds.Show shown) = false
@@ -167,3 +167,15 @@ IsFaultyConstant statements symbols number (kinds.Const name expr) fault = (faul
 IsFaultyConstant statements symbols number (kinds.Rule head body) fault = ⊥
 IsFaultyConstant statements symbols number (kinds.Facts fact) fault = ⊥
 IsFaultyConstant statements symbols number (kinds.Show shown) fault = ⊥
+
+-- each of the first statements, so many, that defines a constant is sound
+abbrev pub AreSoundConstants : List Statement → List Term → ℕ → Type 0
+AreSoundConstants statements symbols count =
+    (number : ℕ) (statement : Statement) → number < count → slice_get statements number ≡ Some statement
+    → IsSoundConstant statements symbols number statement.kind
+
+-- the statement with this number is the first one whose constant is faulty
+abbrev pub IsFirstFaulty : List Statement → List Term → ℕ → Type 0
+IsFirstFaulty statements symbols number =
+    ((statement : Statement) × (slice_get statements number ≡ Some statement) × ((name : List ℕ) × IsFaultyConstant statements symbols number statement.kind name))
+    × AreSoundConstants statements symbols number

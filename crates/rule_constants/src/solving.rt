@@ -24,14 +24,22 @@ pub struct Step {
 fn is_known(known: &[Option<Value>], number: usize) -> bool
     ensures { result ≡ is_some (by_number known.now number) }
 {
-    if number < known.len() { known[number].is_some() } else { false }
+    if number < known.len() {
+        known[number].is_some()
+    } else {
+        false
+    }
 }
 
 // Whether a definition was tried; one that isn't there counts as tried.
 fn was_tried(tried: &[bool], number: usize) -> bool
     ensures { result ≡ slice_index_or tried.now number true }
 {
-    if number < tried.len() { tried[number] } else { true }
+    if number < tried.len() {
+        tried[number]
+    } else {
+        true
+    }
 }
 
 // The place of the first definition without a known value, from a place on.
@@ -113,7 +121,12 @@ fn value_of(
     ensures { IfOk result (λ value. value ≡ next_values statements.now links.now (by_number known.now) definition) }
 {
     match statements.get(definition) {
-        Some(Statement { kind: Kind::Const(_, expr), .. }) => {
+        Some(
+            Statement {
+                kind: Kind::Const(_, expr),
+                ..
+            },
+        ) => {
             let value = defined_value(alloc, links, known, expr)?;
             Ok(value)
         }

@@ -1,11 +1,10 @@
-use Rattle.std.proofs.Common.{◌≡◌, ℕ, ◌+◌, ◌<◌, ◌≤◌, Bool, true, false, List, [], ◌∷◌, ◌++◌, length, take, Option, Some, None, is_some, slice_index_or, slice_set, sym, subst, ap, ◌∙◌, arith}
+use Rattle.std.proofs.Common.{◌≡◌, ℕ, ◌+◌, ◌<◌, ◌≤◌, true, false, List, [], ◌∷◌, ◌++◌, length, take, Option, Some, None, is_some, slice_index_or, slice_set, sym, subst, ap, ◌∙◌, arith}
 use Rattle.std.proofs.lemmas.List.{length-append}
 use Rattle.tel_semantics.proofs.Members.{In}
 use Rattle.tel_term.specs.declared.terms.Value.{Value}
 use Rattle.rule_constants.specs.declared.solving.Step.{Step}
 use Rattle.rule_constants.specs.Constants.{all_known, next_values}
 use Rattle.rule_constants.specs.Operands.{by_number}
-use Rattle.rule_constants.specs.Solving.{Solves}
 use Rattle.rule_constants.proofs.Walks.{IsWalk, walk-init, moved, walk-moved, walk-down, walk-up, walk-done, stuck_again, stuck_here, in-get, untried-tried}
 use Rattle.rule_constants.proofs.solving.solve.Goals as goal
 
