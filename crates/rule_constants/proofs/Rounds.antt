@@ -2,7 +2,7 @@
 use Rattle.std.proofs.Common.{◌≡◌, ℕ, zero, suc, ◌+◌, Bool, true, false, not, List, [], ◌∷◌, ◌++◌, Option, Some, None, refl, sym, ap, subst, ◌∙◌, ◌⊎◌, inl, ⊎_elim, arith}
 use Rattle.std.specs.Prelude.{◌&&◌, is_some, slice_get, if◌then◌else◌}
 use Rattle.std.proofs.lemmas.Bool.{and_parts, and_from, false≢true}
-use Rattle.tel_semantics.proofs.Members.{In, In-append_left, In-append_right, In-list_all, list_all-from_In}
+use Rattle.tel_base.proofs.Members.{In, In-append_left, In-append_right, In-list_all, list_all-from_In}
 use Rattle.tel_term.specs.declared.terms.Value.{Value}
 use Rattle.tel_term.specs.declared.exprs.SumOp.{SumOp}
 use Rattle.tel_term.specs.declared.exprs.ProductOp.{ProductOp}

@@ -6,7 +6,7 @@ use Rattle.std.proofs.lemmas.Bool.{and_from, false≢true, cases_eq}
 use Rattle.std.proofs.lemmas.List.{take_more, take_all, length-set, get_or-set_same, get_or-set_other}
 use Rattle.std.proofs.lemmas.List.Folds.{list_all-append}
 use Rattle.std.proofs.lemmas.List.{map-append}
-use Rattle.tel_semantics.proofs.Members.{In, In-append_left, In-append_right, In-append_cases, In-list_all, list_all-from_In}
+use Rattle.tel_base.proofs.Members.{In, In-append_left, In-append_right, In-append_cases, In-list_all, list_all-from_In}
 use Rattle.tel_term.specs.declared.terms.Value.{Value}
 use Rattle.tel_rule.specs.declared.statements.Statement.{Statement}
 use Rattle.rule_constants.specs.declared.solving.Step.{Step}

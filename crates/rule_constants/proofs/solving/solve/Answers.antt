@@ -1,6 +1,6 @@
 use Rattle.std.proofs.Common.{◌≡◌, ℕ, ◌+◌, ◌<◌, ◌≤◌, true, false, List, [], ◌∷◌, ◌++◌, length, take, Option, Some, None, is_some, slice_index_or, slice_set, sym, subst, ap, ◌∙◌, arith}
 use Rattle.std.proofs.lemmas.List.{length-append}
-use Rattle.tel_semantics.proofs.Members.{In}
+use Rattle.tel_base.proofs.Members.{In}
 use Rattle.tel_term.specs.declared.terms.Value.{Value}
 use Rattle.rule_constants.specs.declared.solving.Step.{Step}
 use Rattle.rule_constants.specs.Constants.{all_known, next_values}

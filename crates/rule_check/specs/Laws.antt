@@ -1,0 +1,12 @@
+-- Laws of causes.
+use Rattle.std.specs.Prelude.{◌≡◌}
+use Rattle.tel_rule.specs.declared.statements.Program.{Program}
+use Rattle.rule_check.specs.declared.faults.CheckFault.{CheckFault}
+use Rattle.rule_check.specs.Causes.{IsSound, IsFirstCause}
+
+-- a program has one first cause at the most, and none where it is sound
+abbrev pub FirstCauseIsOne : Type 0
+FirstCauseIsOne = (program : Program) (a b : CheckFault) → IsFirstCause program a → IsFirstCause program b → a ≡ b
+
+abbrev pub SoundHasNoCause : Type 0
+SoundHasNoCause = (program : Program) (cause : CheckFault) → IsSound program → IsFirstCause program cause → ⊥
