@@ -1,0 +1,3 @@
+pub mod FirstCauses
+pub mod OneCause
+pub mod Replacing

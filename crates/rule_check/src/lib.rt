@@ -4,8 +4,14 @@
 
 ghost use Rattle.rule_check.specs.Causes.{IsFirstCause};
 
+mod checked;
+mod checking;
 mod faults;
 mod formulas;
+mod laws;
+mod names;
 mod statements;
 
+pub use checked::{Checked, check};
 pub use faults::CheckFault;
+pub use laws::one_first_cause;
