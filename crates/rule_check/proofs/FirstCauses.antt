@@ -1,9 +1,8 @@
 -- From what tables decide of each statement, and from the first faulty constant, to the first cause.
-use Rattle.std.proofs.Common.{◌≡◌, ◌≢◌, ℕ, zero, suc, ◌+◌, ◌<◌, ◌≤◌, Bool, true, false, List, [], ◌∷◌, length, get_or, Option, Some, None, refl, sym, ap, subst, ◌∙◌, ◌⊎◌, inl, inr, ⊎_elim, arith}
-use Rattle.std.specs.Prelude.{IsTrue, slice_get}
+use Rattle.std.proofs.Common.{◌≡◌, ◌≢◌, ℕ, zero, suc, ◌+◌, ◌<◌, ◌≤◌, Bool, true, false, List, [], ◌∷◌, length, get_or, Some, None, refl, sym, ap, subst, ◌∙◌, ◌⊎◌, inl, inr, ⊎_elim, arith}
+use Rattle.std.specs.Prelude.{slice_get}
 use Rattle.std.proofs.lemmas.Bool.{false≢true, cases_order}
 use Rattle.tel_term.specs.declared.terms.Term.{Term}
-use Rattle.tel_term.specs.declared.terms.Value.{Value}
 use Rattle.tel_rule.specs.declared.statements.Signature.{Signature}
 use Rattle.tel_rule.specs.declared.statements.Kind.{Kind}
 use Rattle.tel_rule.specs.declared.statements.Kind.TheVariants as kinds
@@ -12,10 +11,10 @@ use Rattle.tel_rule.specs.declared.statements.Program.{Program}
 use Rattle.tel_semantics.specs.Tables.{is_table}
 use Rattle.rule_binding.specs.Binding.{IsFirstUnbound}
 use Rattle.rule_binding.proofs.Bodies.{one_unbound}
-use Rattle.rule_constants.specs.Constants.{links_of, values_after, IsSoundConstant, IsFaultyConstant, AreSoundConstants, IsFirstFaulty}
+use Rattle.rule_constants.specs.Constants.{IsSoundConstant, IsFaultyConstant, AreSoundConstants, IsFirstFaulty}
 use Rattle.rule_check.specs.declared.faults.CheckFault.{CheckFault}
 use Rattle.rule_check.specs.declared.faults.CheckFault.TheVariants as causes
-use Rattle.rule_check.specs.Causes.{IsUnbound, IsCause, has_bare_arrow, has_bad_prime, rank, HasNoCause, HaveNoCause, IsSound, IsFirstCause}
+use Rattle.rule_check.specs.Causes.{IsUnbound, IsCause, has_bare_arrow, rank, HasNoCause, HaveNoCause, IsSound, IsFirstCause}
 use Rattle.rule_check.specs.Checking.{IsClear, IsUnclear, AreClear, IsFirstUnclear, DefinesName, defines_a_name, IsConstOf}
 
 none-bound : (tables : Signature → Bool) (s : Statement) (name : List ℕ) → IsFirstUnbound tables s None → IsUnbound tables s name → ⊥
@@ -129,7 +128,7 @@ module _ (program : Program) where
         at = first.at;
         is = unclear-cause first.number first.statement cause first.is;
         first = unclear-first first.number first.statement cause first.is;
-        before = have_no_cause first.number more (let l = first.below in omega (arith, within, l)) first.before sound
+        before = have_no_cause first.number more (let l = first.below in omega (arith, within, l)) first.before sound;
       }
 
   -- the first faulty constant's statement, where those before it are clear
@@ -141,7 +140,7 @@ module _ (program : Program) where
         at = at;
         is = unclear-cause n s cause is;
         first = unclear-first n s cause is;
-        before = have_no_cause n n (omega arith) clear sound
+        before = have_no_cause n n (omega arith) clear sound;
       }
 
   pub const_at : (n : ℕ) (s : Statement) (cause : CheckFault) → slice_get program.statements n ≡ Some s → AreClear T program.statements n → AreSoundConstants program.statements program.symbols n → IsClear T s → (other : List ℕ) → IsFaultyConstant program.statements program.symbols n s.kind other → IsConstOf s cause → cause ≢ causes.Memory → IsFirstCause program cause
@@ -152,7 +151,7 @@ module _ (program : Program) where
         at = at;
         is = (is.0, faulty-named program.statements program.symbols n s.kind name other faulty is.1);
         first = λ o l i. no_prime n s o l here i;
-        before = have_no_cause n n (omega arith) clear sound
+        before = have_no_cause n n (omega arith) clear sound;
       }
   const_at n s (causes.Unbound place name) at clear sound here other faulty is some = absurd is
   const_at n s (causes.Arrow place) at clear sound here other faulty is some = absurd is

@@ -1,5 +1,5 @@
 -- A program has one first cause.
-use Rattle.std.proofs.Common.{◌≡◌, ◌≢◌, ℕ, ◌<◌, ◌≤◌, List, length, Option, Some, None, refl, sym, ap, subst, ◌∙◌, ◌⊎◌, inl, inr, ⊎_elim, arith}
+use Rattle.std.proofs.Common.{◌≡◌, ℕ, ◌<◌, List, Some, sym, ap, subst, ◌∙◌, ◌⊎◌, inl, inr, ⊎_elim, arith}
 use Rattle.std.specs.Prelude.{slice_get}
 use Rattle.std.proofs.lemmas.Bool.{cases_order}
 use Rattle.tel_rule.specs.declared.statements.Kind.{Kind}
@@ -63,11 +63,13 @@ one_cause p a b x y = by_number (order x.number y.number)
         let there : Some x.statement ≡ Some y.statement = sym x.at ∙ ap (slice_get p.statements) e ∙ y.at in
         let s : x.statement ≡ y.statement = cc in
         subst (λ (n : ℕ). IsCause p n x.statement b) (sym e) (subst (λ (t : Statement). IsCause p y.number t b) (sym s) y.is)
+
     same_other : x.number ≡ y.number → IsCause p y.number y.statement a
     same_other e =
         let there : Some x.statement ≡ Some y.statement = sym x.at ∙ ap (slice_get p.statements) e ∙ y.at in
         let s : x.statement ≡ y.statement = cc in
         subst (λ (n : ℕ). IsCause p n y.statement a) e (subst (λ (t : Statement). IsCause p x.number t a) s x.is)
+
     by_number : (x.number < y.number) ⊎ ((x.number ≡ y.number) ⊎ (y.number < x.number)) → a ≡ b
     by_number (inl l) = absurd (y.before x.number x.statement l x.at a x.is)
     by_number (inr (inr l)) = absurd (x.before y.number y.statement l y.at b y.is)

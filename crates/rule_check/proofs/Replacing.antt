@@ -1,5 +1,5 @@
 -- The program that `check` makes is the one with its constants replaced.
-use Rattle.std.proofs.Common.{◌≡◌, ℕ, List, Option, map, sym, ap, ◌∙◌, refl}
+use Rattle.std.proofs.Common.{◌≡◌, ℕ, List, Option, map, ap, ◌∙◌, refl}
 use Rattle.tel_term.specs.declared.terms.Value.{Value}
 use Rattle.tel_rule.specs.declared.statements.Statement.{Statement}
 use Rattle.tel_rule.specs.declared.statements.Program.{Program}
@@ -13,8 +13,8 @@ is_replaced program L K K' S new l k s values is =
       known = by_number K';
       values = values;
       statements = is
-        ∙ ap (λ (x : List (Option ℕ)). map (statement_replaced (replacement x (by_number K))) S) l
-        ∙ ap (λ (x : List (Option Value)). map (statement_replaced (replacement (links_of program.statements program.symbols) (by_number x))) S) k
-        ∙ ap (λ (x : List Statement). map (statement_replaced (replacement (links_of program.statements program.symbols) (by_number K'))) x) s;
-      symbols = refl
+          ∙ ap (λ (x : List (Option ℕ)). map (statement_replaced (replacement x (by_number K))) S) l
+          ∙ ap (λ (x : List (Option Value)). map (statement_replaced (replacement (links_of program.statements program.symbols) (by_number x))) S) k
+          ∙ ap (λ (x : List Statement). map (statement_replaced (replacement (links_of program.statements program.symbols) (by_number K'))) x) s;
+      symbols = refl;
     }

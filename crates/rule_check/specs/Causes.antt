@@ -1,7 +1,6 @@
 -- Why a program is refused before it is instantiated: unbound variables, arrows, primes and constants.
-use Rattle.std.specs.Prelude.{◌≡◌, ℕ, ◌<◌, Bool, true, false, not, ◌&&◌, ◌||◌, ◌==◌, List, [], ◌∷◌, map, length, Option, Some, None, if◌then◌else◌, slice_get, IsTrue}
+use Rattle.std.specs.Prelude.{◌≡◌, ℕ, ◌<◌, Bool, true, false, not, ◌&&◌, ◌||◌, ◌==◌, List, length, Some, slice_get, IsTrue}
 use Rattle.std.specs.List.{list_any}
-use Rattle.tel_base.specs.declared.places.Place.{Place}
 use Rattle.tel_rule.specs.declared.formulas.Atom.{Atom}
 use Rattle.tel_rule.specs.declared.formulas.UnaryOp.{UnaryOp}
 use Rattle.tel_rule.specs.declared.formulas.UnaryOp.TheVariants as unary

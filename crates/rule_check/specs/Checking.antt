@@ -1,5 +1,5 @@
 -- How the first cause is found: what tables decide of each statement, and the first faulty constant.
-use Rattle.std.specs.Prelude.{◌≡◌, ⊤, ℕ, ◌<◌, Bool, true, false, List, length, Option, Some, None, slice_get, IsTrue}
+use Rattle.std.specs.Prelude.{◌≡◌, ⊤, ℕ, ◌<◌, Bool, true, false, List, Some, None, slice_get}
 use Rattle.tel_rule.specs.declared.statements.Signature.{Signature}
 use Rattle.tel_rule.specs.declared.statements.Kind.{Kind}
 use Rattle.tel_rule.specs.declared.statements.Kind.TheVariants as kinds

@@ -21,12 +21,7 @@ use tel_base::{HashKey, Text};
 use tel_rule::{Kind, Program, Statement};
 
 // The fault of an unbound variable.
-fn unbound(
-    alloc: Global,
-    _tables: &Tables,
-    statement: &Statement,
-    variable: usize,
-) -> CheckFault
+fn unbound(alloc: Global, _tables: &Tables, statement: &Statement, variable: usize) -> CheckFault
     requires { IsFirstUnbound (tells _tables.now) statement.now (Some variable) }
     ensures { result ≢ CheckFault.Memory → IsUnclear (tells _tables.now) statement.now result }
 {
@@ -112,11 +107,7 @@ fn cause_up_to(alloc: Global, tables: &Tables, program: &Program, number: usize)
 }
 
 /// The constants of a program in which no cause stands; or its first cause.
-pub fn first_cause(
-    alloc: Global,
-    key: HashKey,
-    program: &Program,
-) -> Result<Constants, CheckFault>
+pub fn first_cause(alloc: Global, key: HashKey, program: &Program) -> Result<Constants, CheckFault>
     ensures sound { OnOk result (IsSound program.now) }
     ensures links { IfOk result (λ constants. constants.links.items ≡ links_of program.now.statements program.now.symbols) }
     ensures values { IfOk result (λ constants. AreValues program.now.statements program.now.symbols (by_number constants.values.items)) }
@@ -132,9 +123,7 @@ pub fn first_cause(
             Ok(()) => Ok(constants),
             Err(fault) => Err(fault),
         },
-        Err(ConstantsFault::Faulty(number)) => {
-            Err(cause_up_to(alloc, &tables, program, number))
-        }
+        Err(ConstantsFault::Faulty(number)) => { Err(cause_up_to(alloc, &tables, program, number)) }
         Err(ConstantsFault::Memory) => Err(CheckFault::Memory),
     }
 }

@@ -1,8 +1,4 @@
-use Rattle.std.proofs.Common.{◌≡◌, ℕ, List, sym, ap, subst, ◌∙◌}
-use Rattle.tel_rule.specs.declared.statements.Signature.{Signature}
-use Rattle.tel_rule.specs.declared.statements.Statement.{Statement}
-use Rattle.tel_semantics.specs.Tables.{is_table}
-use Rattle.rule_binding.specs.Heads.{tells}
+use Rattle.std.proofs.Common.{◌∙◌}
 use Rattle.rule_check.proofs.Replacing.{is_replaced}
 use Rattle.rule_check.proofs.checked.check.Goals as goal
 

@@ -1,8 +1,7 @@
-use Rattle.std.proofs.Common.{◌≡◌, ℕ, ◌+◌, ◌<◌, List, Some, sym, ap, subst, ◌∙◌, ⊎_elim, arith}
+use Rattle.std.proofs.Common.{◌≡◌, Some, sym, ap, ◌∙◌, arith}
 use Rattle.std.specs.Prelude.{slice_get}
 use Rattle.tel_rule.specs.declared.statements.Statement.{Statement}
 use Rattle.rule_binding.specs.Heads.{tells}
-use Rattle.rule_check.specs.Checking.{IsClear}
 use Rattle.rule_check.proofs.FirstCauses.{get-at, clear_more}
 use Rattle.rule_check.proofs.checking.examine_first.Goals as goal
 
