@@ -3,3 +3,4 @@ mod Examples
 pub mod Rounds
 pub mod Walks
 pub mod Definitions
+pub mod OneReplaced
