@@ -1,3 +1,4 @@
 pub mod FirstCauses
 pub mod OneCause
 pub mod Replacing
+mod Examples
