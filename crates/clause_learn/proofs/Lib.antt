@@ -4,3 +4,4 @@ pub mod Resolutions
 pub mod Uips
 pub mod Backing
 pub mod LearntSteps
+mod Examples
