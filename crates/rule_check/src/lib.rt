@@ -2,8 +2,6 @@
 //! stand where they may, and its constants have values.
 #![tactic(auto)]
 
-ghost use Rattle.rule_check.specs.Causes.{IsFirstCause};
-
 mod checked;
 mod checking;
 mod faults;
