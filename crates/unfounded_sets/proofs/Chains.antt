@@ -5,7 +5,7 @@ use Rattle.std.proofs.lemmas.List.{length-append, length-reverse, reverse-append
 use Rattle.std.proofs.lemmas.Bool.{cases_eq, cases_lt, cond-true, cond-false, eq-eqb, ne_eqb}
 use Rattle.unfounded_sets.specs.declared.waits.Wait.{Wait}
 use Rattle.unfounded_sets.specs.declared.waits.Link.{Link}
-use Rattle.unfounded_sets.specs.Waiting.{chain, row, waiting_of, Earlier, IsLinked, Adds, Takes}
+use Rattle.unfounded_sets.specs.Waiting.{chain, row, waiting_of, Earlier, IsLinked, Takes}
 
 -- a later link changes no list
 chain_more : (link : Link) (older : List Link) (k : ℕ) → k ≤ length older → chain (link ∷ older) k ≡ chain older k
@@ -74,18 +74,6 @@ add_linked first links var link count linked next many =
           let long_back = length-reverse links in
           (omega (arith, next, old, long_back), linked.earlier));
     }
-
-pub add_rows : (first : List ℕ) (links : List Link) (var : ℕ) (wait : Wait) (link : Link) (count : ℕ) → IsLinked first links → var < length first → link.wait ≡ wait → link.next ≡ get_or first var 0 → count ≡ length links + 1 → Adds var wait (row (waiting_of first links)) (row (waiting_of (set first var count) (links ++ link ∷ [])))
-add_rows first links var wait link count linked within is next many v =
-    let old : List Link = reverse links in
-    let back = length-reverse links in
-    ap (λ (list : List Link). chain list (get_or (set first var count) v 0)) (push_is links link) ∙ ⊎_elim (λ (e : v ≡ var).
-    let here : get_or (set first var count) v 0 ≡ count = ap (λ (u : ℕ). get_or (set first var count) u 0) e ∙ get_or-set_same first var count 0 within in
-    let last : get_or (set first var count) v 0 ≡ suc (length old) = omega (arith, here, many, back) in
-    chain_new link old (get_or (set first var count) v 0) last ∙ ap (λ (w : Wait). w ∷ chain old link.next) is ∙ ap (λ (k : ℕ). wait ∷ chain old k) (next ∙ ap (λ (u : ℕ). get_or first u 0) (sym e)) ∙ sym (cond-true (v == var) (wait ∷ chain old (get_or first v 0)) (chain old (get_or first v 0)) (eq-eqb v var e))) (λ ne.
-    let same : get_or (set first var count) v 0 ≡ get_or first v 0 = get_or-set_other first var v count 0 ne in
-    let low = linked.firsts v in
-    ap (chain (link ∷ old)) same ∙ chain_more link old (get_or first v 0) (omega (arith, low, back)) ∙ sym (cond-false (v == var) (wait ∷ chain old (get_or first v 0)) (chain old (get_or first v 0)) (ne_eqb v var ne))) (cases_eq v var)
 
 -- ---- a wait less
 

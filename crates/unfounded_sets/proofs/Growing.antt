@@ -24,11 +24,6 @@ fewer_missing (false ∷ found) zero l h = omega arith
 fewer_missing (true ∷ found) (suc v) l h = fewer_missing found v (omega (arith, l)) h
 fewer_missing (false ∷ found) (suc v) l h = let rest = fewer_missing found v (omega (arith, l)) h in omega (arith, rest)
 
-pub past_at : (table : List Bool) (v : ℕ) → at table v ≡ true → v < length table
-past_at [] v h = absurd (false≢true h)
-past_at (b ∷ more) zero h = omega arith
-past_at (b ∷ more) (suc v) h = let rest = past_at more v h in omega (arith, rest)
-
 pub more_found : (wanted X Y : Set) (vars : List ℕ) → ((v : ℕ) → X v ≡ true → Y v ≡ true) → all_of wanted X vars ≡ true → all_of wanted Y vars ≡ true
 more_found wanted X Y [] up h = refl
 more_found wanted X Y (v ∷ vars) up h =

@@ -1,6 +1,6 @@
 -- Numbers in a row.
 use Rattle.std.proofs.Common.{◌≡◌, ℕ, zero, suc, ◌+◌, ◌-◌, ◌<◌, ◌≤◌, Bool, true, false, ◌&&◌, List, [], ◌∷◌, ◌++◌, map, append_assoc, refl, sym, ap, inl, inr, ◌∙◌, ⊎_elim, arith}
-use Rattle.std.specs.Prelude.{Some, None, nat_lt}
+use Rattle.std.specs.Prelude.{Some, nat_lt}
 use Rattle.std.specs.List.{find, filter, list_all, range_with_len}
 use Rattle.std.proofs.lemmas.Bool.{and_from, cases_Bool, cases_lt, cond-true, cond-false, lt-ltb}
 use Rattle.clause_store.specs.Closure.{In}
@@ -20,12 +20,6 @@ right_false false b h = refl
 
 pub find_on : (p : ℕ → Bool) (n k : ℕ) → k < n → p k ≡ false → find p (range_with_len (k + 1) (n - (k + 1))) ≡ find p (range_with_len k (n - k))
 find_on p n k l h = sym (ap (find p) (range_split n k l) ∙ cond-false (p k) (Some k) (find p (range_with_len (k + 1) (n - (k + 1)))) h)
-
-pub find_now : (p : ℕ → Bool) (n k : ℕ) → k < n → p k ≡ true → Some k ≡ find p (range_with_len k (n - k))
-find_now p n k l h = sym (ap (find p) (range_split n k l) ∙ cond-true (p k) (Some k) (find p (range_with_len (k + 1) (n - (k + 1)))) h)
-
-pub find_end : (p : ℕ → Bool) (n k : ℕ) → n ≤ k → None ≡ find p (range_with_len k (n - k))
-find_end p n k l = let none : 0 ≡ n - k = omega (arith, l) in ap (λ (m : ℕ). find p (range_with_len k m)) none
 
 pub kept_on : (p : ℕ → Bool) (n k : ℕ) → k < n → p k ≡ false → filter p (range_with_len k (n - k)) ≡ filter p (range_with_len (k + 1) (n - (k + 1)))
 kept_on p n k l h = ap (filter p) (range_split n k l) ∙ cond-false (p k) (k ∷ filter p (range_with_len (k + 1) (n - (k + 1)))) (filter p (range_with_len (k + 1) (n - (k + 1)))) h

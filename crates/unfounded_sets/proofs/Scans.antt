@@ -220,12 +220,6 @@ take_served layers entries bound count more state new rows vars var wait served 
     ⊎_elim (λ (e : wait ≡ w.wait). subst (λ (k : ℕ). IsServed layers entries bound more new k) (ap (λ (x : Wait). x.rule) e ∙ w.of_rule) (step.serves more)) (λ i.
     step.keeps more number (inr (record { var = w.var; wait = w.wait; there = i; of_rule = w.of_rule; has = w.has; want = w.want; blocked = w.blocked }))) (took_cases var w.var wait w.wait state.row rows takes w.there)) (served number l live)
 
-pub took_shorter : (var : ℕ) (wait : Wait) (old mid new : Rows) → Takes (Some wait) var old mid → new var ≡ mid var → length (new var) < length (old var)
-took_shorter var wait old mid new takes same =
-    let longer : length (old var) ≡ suc (length (mid var)) = ap length (takes var ∙ cond-true (var == var) (wait ∷ mid var) (mid var) (eq-eqb var var refl)) in
-    let kept : length (new var) ≡ length (mid var) = ap length same in
-    omega (arith, longer, kept)
-
 -- ---- no more waits
 
 pub empty_scan : (layers : Layers) (entries : List Entry) (bound : ℕ) (state : State) (rows : Rows) (vars var : ℕ) → IsScan layers entries bound state → Takes None var state.row rows → vars ≡ state.vars → IsScan layers entries bound (waiting_state state rows vars)
@@ -236,49 +230,6 @@ empty_scan layers entries bound state rows vars var scan takes same = record {
   long = scan.long;
   wide = same ∙ scan.wide;
 }
-
-pub empty_served : (layers : Layers) (entries : List Entry) (bound count : ℕ) (state : State) (rows : Rows) (vars var : ℕ) → AreServed layers entries bound (λ v. var == v) count state → Takes None var state.row rows → AreServed layers entries bound none count (waiting_state state rows vars)
-empty_served layers entries bound count state rows vars var served takes number l live =
-    ⊎_elim (λ f. inl f) (λ (w : IsWaiting layers entries bound (λ v. var == v) state number). inr (record {
-      var = w.var;
-      wait = w.wait;
-      there = subst (In w.wait) (sym (takes.1 w.var)) w.there;
-      of_rule = w.of_rule;
-      has = w.has;
-      want = w.want;
-      blocked =
-          ⊎_elim (λ free. or_left (not (at state.found w.var)) (is_busy none state.fresh w.var) free) (λ busy.
-          or_right (not (at state.found w.var)) (is_busy none state.fresh w.var) (⊎_elim (λ e. absurd (subst (In w.wait) (ap state.row (sym (eqb-true var w.var e)) ∙ takes.0) w.there)) (λ fresh. fresh) (or_cases (var == w.var) (among state.fresh w.var) busy))) (or_cases (not (at state.found w.var)) (is_busy (λ v. var == v) state.fresh w.var) w.blocked);
-    })) (served number l live)
-
--- ---- a fresh variable is looked at
-
-pub pop_scan : (layers : Layers) (entries : List Entry) (bound var : ℕ) (state : State) (fresh : List ℕ) → IsScan layers entries bound state → state.fresh ≡ (fresh ++ (var ∷ [])) → IsScan layers entries bound (record { found = state.found; fresh = fresh; row = state.row; vars = state.vars })
-pop_scan layers entries bound var state fresh scan is = record {
-  least = scan.least;
-  waits = scan.waits;
-  fresh_found = λ v h. scan.fresh_found v (ap (λ (list : List ℕ). among list v) is ∙ among_more fresh var v ∙ or_left (among fresh v) (var == v || false) h);
-  long = scan.long;
-  wide = scan.wide;
-}
-
-pub pop_found : (layers : Layers) (entries : List Entry) (bound var : ℕ) (state : State) (fresh : List ℕ) → IsScan layers entries bound state → state.fresh ≡ (fresh ++ (var ∷ [])) → at state.found var ≡ true
-pop_found layers entries bound var state fresh scan is =
-    scan.fresh_found var (ap (λ (list : List ℕ). among list var) is ∙ among_more fresh var var ∙ or_right (among fresh var) (var == var || false) (or_left (var == var) false (eq-eqb var var refl)))
-
-pub pop_served : (layers : Layers) (entries : List Entry) (bound count var : ℕ) (state : State) (fresh : List ℕ) → AreServed layers entries bound none count state → state.fresh ≡ (fresh ++ (var ∷ [])) → AreServed layers entries bound (λ v. var == v) count (record { found = state.found; fresh = fresh; row = state.row; vars = state.vars })
-pop_served layers entries bound count var state fresh served is number l live =
-    ⊎_elim (λ f. inl f) (λ (w : IsWaiting layers entries bound none state number). inr (record {
-      var = w.var;
-      wait = w.wait;
-      there = w.there;
-      of_rule = w.of_rule;
-      has = w.has;
-      want = w.want;
-      blocked =
-          ⊎_elim (λ free. or_left (not (at state.found w.var)) (is_busy (λ v. var == v) fresh w.var) free) (λ busy.
-          or_right (not (at state.found w.var)) (is_busy (λ v. var == v) fresh w.var) (⊎_elim (λ m. or_right (var == w.var) (among fresh w.var) m) (λ m. ⊎_elim (λ e. or_left (var == w.var) (among fresh w.var) e) (λ f. absurd (false≢true f)) (or_cases (var == w.var) false m)) (or_cases (among fresh w.var) (var == w.var || false) (sym (ap (λ (list : List ℕ). among list w.var) is ∙ among_more fresh var w.var) ∙ busy)))) (or_cases (not (at state.found w.var)) (is_busy none state.fresh w.var) w.blocked);
-    })) (served number l live)
 
 -- ---- the end
 
