@@ -6,8 +6,8 @@ use Rattle.std.proofs.lemmas.List.{length-replicate}
 use Rattle.std.proofs.lemmas.Bool.{and_parts, and_from, or_cases, or_left, or_right, false≢true, cases_Bool, not-true, not_from_false, eq-eqb, eqb-true, ltb-true, cases_eq, ne_eqb}
 use Rattle.tel_base.specs.declared.literals.Lit.{Lit}
 use Rattle.tel_base.specs.Literals.{lit_of, negate}
-use Rattle.clause_store.specs.Closure.{In}
-use Rattle.clause_store.proofs.Members.{In-filter, In-filter_from, In-map, In-map_from, list_all-from_In, any_found, any_from}
+use Rattle.tel_base.specs.Members.{In}
+use Rattle.tel_base.proofs.Members.{In-filter, In-filter_from, In-map, In-map_from, list_all-from_In, any_found, any_from}
 use Rattle.normal_program.specs.declared.rules.NRule.{NRule}
 use Rattle.normal_program.specs.Grounds.{Layers, is_head}
 use Rattle.normal_program.specs.StableSets.{Set}

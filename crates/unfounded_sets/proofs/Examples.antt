@@ -8,7 +8,7 @@ use Rattle.tel_base.specs.declared.literals.Lit.{Lit}
 use Rattle.tel_base.specs.Literals.{lit_of, negate}
 use Rattle.clause_store.specs.Closure.{In, same_lit}
 use Rattle.clause_store.proofs.Closures.{same_lit-true}
-use Rattle.clause_store.proofs.Members.{In-list_all, any_found}
+use Rattle.tel_base.proofs.Members.{In-list_all, any_found}
 use Rattle.normal_program.specs.declared.rules.NRule.{NRule}
 use Rattle.normal_program.specs.declared.shapes.Shape.TheVariants as shapes
 use Rattle.normal_program.specs.declared.modules.ModuleParts.{ModuleParts}

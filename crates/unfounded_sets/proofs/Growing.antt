@@ -7,8 +7,8 @@ use Rattle.tel_base.specs.Literals.{lit_of}
 use Rattle.normal_program.specs.Grounds.{Layers, is_head}
 use Rattle.normal_program.specs.StableSets.{Set}
 use Rattle.lit_trail.specs.declared.assignment.Entry.{Entry}
-use Rattle.clause_store.specs.Closure.{In}
-use Rattle.clause_store.proofs.Members.{In-list_all}
+use Rattle.tel_base.specs.Members.{In}
+use Rattle.tel_base.proofs.Members.{In-list_all}
 use Rattle.unfounded_sets.specs.Unfounded.{head_in, is_false, is_off}
 use Rattle.unfounded_sets.specs.Least.{wanted_below, at, all_of, supports, keeps_rule, is_kept, LeastFrom, missing}
 

@@ -6,8 +6,8 @@ use Rattle.std.proofs.lemmas.List.{reverse-append}
 use Rattle.std.proofs.lemmas.List.Folds.{list_all_more}
 use Rattle.std.proofs.lemmas.Bool.{and_from, cases_eq, ltb-true, lt-ltb, ne_eqb, cond-false, false≢true}
 use Rattle.tel_base.specs.declared.literals.Lit.{Lit}
-use Rattle.clause_store.specs.Closure.{In}
-use Rattle.clause_store.proofs.Members.{In-append_left, In-append_right, In-list_all, In-map, list_all-from_In}
+use Rattle.tel_base.specs.Members.{In}
+use Rattle.tel_base.proofs.Members.{In-append_left, In-append_right, In-list_all, In-map, list_all-from_In}
 use Rattle.normal_program.specs.declared.rules.NRule.{NRule}
 use Rattle.lit_trail.specs.declared.assignment.Entry.{Entry}
 use Rattle.lit_trail.specs.Entries.{spot_in, spot_of, spot_value}

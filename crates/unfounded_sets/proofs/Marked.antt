@@ -4,7 +4,7 @@ use Rattle.std.specs.Prelude.{Some}
 use Rattle.std.specs.List.{find, list_any}
 use Rattle.std.proofs.lemmas.Bool.{cases_Bool, cases_eq, cond-true, cond-false, eq-eqb, ne_eqb, false≢true}
 use Rattle.tel_base.specs.declared.literals.Lit.{Lit}
-use Rattle.clause_store.specs.Closure.{In}
+use Rattle.tel_base.specs.Members.{In}
 use Rattle.lit_trail.specs.declared.assignment.Entry.{Entry}
 use Rattle.unfounded_sets.specs.Unfounded.{is_false}
 use Rattle.unfounded_sets.specs.Least.{at}

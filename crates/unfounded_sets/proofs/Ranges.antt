@@ -3,7 +3,7 @@ use Rattle.std.proofs.Common.{◌≡◌, ℕ, zero, suc, ◌+◌, ◌-◌, ◌<�
 use Rattle.std.specs.Prelude.{Some, nat_lt}
 use Rattle.std.specs.List.{find, filter, list_all, range_with_len}
 use Rattle.std.proofs.lemmas.Bool.{and_from, cases_Bool, cases_lt, cond-true, cond-false, lt-ltb}
-use Rattle.clause_store.specs.Closure.{In}
+use Rattle.tel_base.specs.Members.{In}
 use Rattle.unfounded_sets.specs.LoopClauses.{rises}
 
 range_split : (n k : ℕ) → k < n → range_with_len k (n - k) ≡ (k ∷ range_with_len (k + 1) (n - (k + 1)))

@@ -9,8 +9,8 @@ use Rattle.normal_program.specs.declared.rules.NRule.{NRule}
 use Rattle.normal_program.specs.Grounds.{Layers}
 use Rattle.normal_program.specs.StableSets.{Set}
 use Rattle.lit_trail.specs.declared.assignment.Entry.{Entry}
-use Rattle.clause_store.specs.Closure.{In}
-use Rattle.clause_store.proofs.Members.{In-list_all}
+use Rattle.tel_base.specs.Members.{In}
+use Rattle.tel_base.proofs.Members.{In-list_all}
 use Rattle.unfounded_sets.specs.declared.waits.Wait.{Wait}
 use Rattle.unfounded_sets.specs.Unfounded.{head_in, is_off}
 use Rattle.unfounded_sets.specs.LoopClauses.{among}

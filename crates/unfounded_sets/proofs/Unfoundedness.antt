@@ -4,8 +4,8 @@ use Rattle.std.specs.Prelude.{Option, Some, None, nat_lt}
 use Rattle.std.specs.List.{list_any}
 use Rattle.std.proofs.lemmas.Bool.{and_parts, and_from, or_cases, or_left, or_right, false≢true, cases_Bool, not_from_false, not-true, lt-ltb}
 use Rattle.tel_base.specs.Literals.{lit_of}
-use Rattle.clause_store.specs.Closure.{In}
-use Rattle.clause_store.proofs.Members.{In-list_all, list_all-from_In, all_lost, any_found, any_from}
+use Rattle.tel_base.specs.Members.{In}
+use Rattle.tel_base.proofs.Members.{In-list_all, list_all-from_In, all_lost, any_found, any_from}
 use Rattle.normal_program.specs.declared.rules.NRule.{NRule}
 use Rattle.normal_program.specs.Grounds.{Layers, is_head}
 use Rattle.normal_program.specs.StableSets.{Set}

@@ -1,6 +1,6 @@
 -- How far the scan for supported variables has come.
 use Rattle.std.specs.Prelude.{◌≡◌, ℕ, ◌+◌, ◌<◌, ◌≤◌, Bool, true, false, not, ◌&&◌, ◌||◌, List, [], ◌∷◌, ◌++◌, None, length, replicate, take, slice_index_or, slice_set, IsTrue, ◌⊎◌, if◌then◌else◌}
-use Rattle.clause_store.specs.Closure.{In}
+use Rattle.tel_base.specs.Members.{In}
 use Rattle.normal_program.specs.declared.rules.NRule.{NRule}
 use Rattle.normal_program.specs.Grounds.{Layers}
 use Rattle.normal_program.specs.StableSets.{Set}

@@ -3,7 +3,7 @@ use Rattle.std.specs.Prelude.{ℕ, Bool, false, not, ◌||◌, List, [], ◌∷�
 use Rattle.std.specs.List.{list_any}
 use Rattle.tel_base.specs.declared.literals.Lit.{Lit}
 use Rattle.tel_base.specs.Literals.{lit_of, negate}
-use Rattle.clause_store.specs.Closure.{In}
+use Rattle.tel_base.specs.Members.{In}
 use Rattle.normal_program.specs.declared.rules.NRule.{NRule}
 use Rattle.normal_program.specs.Grounds.{Layers, is_head}
 use Rattle.normal_program.specs.StableSets.{Set}
