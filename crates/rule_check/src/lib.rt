@@ -12,4 +12,4 @@ mod statements;
 
 pub use checked::{Checked, check};
 pub use faults::CheckFault;
-pub use laws::one_first_cause;
+pub use laws::{one_first_cause, some_outcome};

@@ -4,3 +4,4 @@ pub mod Rounds
 pub mod Walks
 pub mod Definitions
 pub mod OneReplaced
+pub mod Settling
