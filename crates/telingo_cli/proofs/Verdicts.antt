@@ -17,42 +17,50 @@ use Rattle.telingo_cli.specs.Plain.{first_unbuilt}
 use Rattle.telingo_cli.specs.Naming.{most_atoms}
 use Rattle.telingo_cli.specs.Grounding.{template_of}
 use Rattle.telingo_cli.specs.Delivery.{Delivers}
-use Rattle.telingo_cli.specs.Verdict.{Verdict, Accepted, Refused, Unbuilt, Large, SayPlain, IsVerdict, places_of, count_of, status_of, output_of, large_line, fault_line, unbuilt_line, TellsOfText, ComesOfText, is_among, Answers}
-use Rattle.telingo_cli.specs.Refusals.{DeliversFault}
+use Rattle.rule_constants.specs.Replaced.{IsReplaced}
+use Rattle.rule_check.specs.declared.faults.CheckFault.{CheckFault}
+use Rattle.rule_check.specs.declared.faults.CheckFault.TheVariants as causes
+use Rattle.rule_check.specs.Causes.{IsSound, IsFirstCause}
+use Rattle.rule_constants.proofs.OneReplaced.{one_replaced}
+use Rattle.rule_check.proofs.OneCause.{one_cause, sound_none}
+use Rattle.rule_check.proofs.SomeCause.{sound_or_cause}
+use Rattle.telingo_cli.specs.Verdict.{Verdict, Accepted, Refused, Faulty, Unbuilt, Large, SayChecked, SayPlain, IsVerdict, places_of, count_of, status_of, output_of, cause_line, large_line, fault_line, TellsOfText, ComesOfText, is_among, Answers}
+use Rattle.telingo_cli.specs.Refusals.{DeliversFault, DeliversCause, DeliversProgram, DeliversRead}
 
--- what is delivered for a program
-pub record DeliversProgram (D : ℕ → List ℕ → Type 0) (settings : Settings) (program : Program) : Type 0 where
-  pub accepted : first_unbuilt program.statements ≡ None → places_of settings program ≤ most_atoms → D (status_of settings (Accepted program)) (output_of settings (Accepted program))
-  pub unbuilt : (place : Place) → first_unbuilt program.statements ≡ Some place → D 65 (unbuilt_line place)
-  pub large : first_unbuilt program.statements ≡ None → most_atoms < places_of settings program → D 69 large_line
+-- what is delivered for a program is so for what the texts say it is
+checked-delivers : (D : ℕ → List ℕ → Type 0) (settings : Settings) (texts : List (List ℕ)) (program : Program) → ((other : Program) → IsProgram texts other → other ≡ program) → DeliversRead D settings program → (checked : Program) → SayChecked texts checked → DeliversProgram D settings checked
+checked-delivers D settings texts program only delivers checked says =
+    let same = only says.source says.reads in
+    delivers.checked (subst IsSound same says.sound) checked (subst (λ (p : Program). IsReplaced p checked) same says.replaced)
 
 -- what is delivered for texts that are a program, whatever their verdict is said to be
-pub program-delivers : (D : ℕ → List ℕ → Type 0) (settings : Settings) (texts : List (List ℕ)) (program : Program) → total_bytes texts ≤ largest_text → ((other : Program) → IsProgram texts other → other ≡ program) → ((fault : ReadFault) → IsFirstFault texts fault → ⊥) → DeliversProgram D settings program → (verdict : Verdict) → IsVerdict settings texts verdict → D (status_of settings verdict) (output_of settings verdict)
+pub program-delivers : (D : ℕ → List ℕ → Type 0) (settings : Settings) (texts : List (List ℕ)) (program : Program) → total_bytes texts ≤ largest_text → ((other : Program) → IsProgram texts other → other ≡ program) → ((fault : ReadFault) → IsFirstFault texts fault → ⊥) → DeliversRead D settings program → (verdict : Verdict) → IsVerdict settings texts verdict → D (status_of settings verdict) (output_of settings verdict)
 program-delivers D settings texts program small only sound delivers (Accepted other) v =
-    let same = only other v.1.reads in
-    subst (λ (p : Program). D (status_of settings (Accepted p)) (output_of settings (Accepted p))) (sym same)
-    (delivers.accepted (subst (λ (p : Program). first_unbuilt p.statements ≡ None) same v.1.plain) (subst (λ (p : Program). places_of settings p ≤ most_atoms) same v.2))
+    (checked-delivers D settings texts program only delivers other v.1.checked).accepted v.1.plain v.2
 program-delivers D settings texts program small only sound delivers (Refused fault) v = absurd (sound fault v.1)
+program-delivers D settings texts program small only sound delivers (Faulty cause) v =
+    delivers.faulty cause (subst (λ (p : Program). IsFirstCause p cause) (only v.1.program v.1.reads) v.1.first)
 program-delivers D settings texts program small only sound delivers (Unbuilt place) v =
-    delivers.unbuilt place (subst (λ (p : Program). first_unbuilt p.statements ≡ Some place) (only v.1.program v.1.reads) v.1.first)
+    (checked-delivers D settings texts program only delivers v.1.program v.1.checked).unbuilt place v.1.first
 program-delivers D settings texts program small only sound delivers Large (inl long) = absurd (omega arith)
 program-delivers D settings texts program small only sound delivers Large (inr v) =
-    let same = only v.1.0 v.1.1.reads in
-    delivers.large (subst (λ (p : Program). first_unbuilt p.statements ≡ None) same v.1.1.plain) (subst (λ (p : Program). most_atoms < places_of settings p) same v.1.2)
+    (checked-delivers D settings texts program only delivers v.1.0 v.1.1.checked).large v.1.1.plain v.1.2
 
 -- the same for texts that are no program, whose first fault is this one
 pub refused-delivers : (D : ℕ → List ℕ → Type 0) (settings : Settings) (texts : List (List ℕ)) (fault : ReadFault) → total_bytes texts ≤ largest_text → ((other : ReadFault) → IsFirstFault texts other → other ≡ fault) → ((program : Program) → IsProgram texts program → ⊥) → D 65 (fault_line fault) → (verdict : Verdict) → IsVerdict settings texts verdict → D (status_of settings verdict) (output_of settings verdict)
-refused-delivers D settings texts fault small first none delivered (Accepted program) v = absurd (none program v.1.reads)
+refused-delivers D settings texts fault small first none delivered (Accepted program) v = absurd (none v.1.checked.source v.1.checked.reads)
 refused-delivers D settings texts fault small first none delivered (Refused other) v =
     subst (λ (f : ReadFault). D 65 (fault_line f)) (sym (first other v.1)) delivered
-refused-delivers D settings texts fault small first none delivered (Unbuilt place) v = absurd (none v.1.program v.1.reads)
+refused-delivers D settings texts fault small first none delivered (Faulty cause) v = absurd (none v.1.program v.1.reads)
+refused-delivers D settings texts fault small first none delivered (Unbuilt place) v = absurd (none v.1.checked.source v.1.checked.reads)
 refused-delivers D settings texts fault small first none delivered Large (inl long) = absurd (omega arith)
-refused-delivers D settings texts fault small first none delivered Large (inr v) = absurd (none v.1.0 v.1.1.reads)
+refused-delivers D settings texts fault small first none delivered Large (inr v) = absurd (none v.1.1.checked.source v.1.1.checked.reads)
 
 -- and for texts that are too long
 pub long-delivers : (D : ℕ → List ℕ → Type 0) (settings : Settings) (texts : List (List ℕ)) → largest_text < total_bytes texts → D 69 large_line → (verdict : Verdict) → IsVerdict settings texts verdict → D (status_of settings verdict) (output_of settings verdict)
 long-delivers D settings texts long delivered (Accepted program) v = absurd (omega (arith, v.0))
 long-delivers D settings texts long delivered (Refused fault) v = absurd (omega (arith, v.0))
+long-delivers D settings texts long delivered (Faulty cause) v = absurd (omega (arith, v.0))
 long-delivers D settings texts long delivered (Unbuilt place) v = absurd (omega (arith, v.0))
 long-delivers D settings texts long delivered Large v = delivered
 
@@ -86,20 +94,28 @@ pub delivered-answers : (settings : Settings) (texts : List (List ℕ)) (verdict
 delivered-answers settings texts verdict code old new is (inl whole) tells = (verdict, is, whole.0, whole.1)
 delivered-answers settings texts verdict code old new is (inr cut) tells = absurd (not_cut code cut.0 tells)
 
--- the verdict of a program, and what is delivered for it
-program_has : (D : ℕ → List ℕ → Type 0) (settings : Settings) (texts : List (List ℕ)) (program : Program) (first : Option Place) → first_unbuilt program.statements ≡ first → total_bytes texts ≤ largest_text → IsProgram texts program → DeliversProgram D settings program → (verdict : Verdict) × IsVerdict settings texts verdict × D (status_of settings verdict) (output_of settings verdict)
-program_has D settings texts program (Some place) is small reads delivers =
-    (Unbuilt place, (small, record { program = program; reads = reads; first = is }), delivers.unbuilt place is)
-program_has D settings texts program None is small reads delivers =
-    let says : SayPlain texts program = record { reads = reads; plain = is } in
+-- the verdict of a program in which no cause stands, and what is delivered for it
+checked_has : (D : ℕ → List ℕ → Type 0) (settings : Settings) (texts : List (List ℕ)) (program : Program) (first : Option Place) → first_unbuilt program.statements ≡ first → total_bytes texts ≤ largest_text → SayChecked texts program → DeliversProgram D settings program → (verdict : Verdict) × IsVerdict settings texts verdict × D (status_of settings verdict) (output_of settings verdict)
+checked_has D settings texts program (Some place) is small says delivers =
+    (Unbuilt place, (small, record { program = program; checked = says; first = is }), delivers.unbuilt place is)
+checked_has D settings texts program None is small says delivers =
+    let plain : SayPlain texts program = record { checked = says; plain = is } in
     elim (cases_lt most_atoms (places_of settings program)) [
-      | inl many ↦ (Large, inr (small, (program, says, many)), delivers.large is many)
-      | inr few ↦ (Accepted program, (small, says, few), delivers.accepted is few)
+      | inl many ↦ (Large, inr (small, (program, plain, many)), delivers.large is many)
+      | inr few ↦ (Accepted program, (small, plain, few), delivers.accepted is few)
     ]
 
-pub program-answers : (settings : Settings) (texts : List (List ℕ)) (program : Program) (code : ℕ) (old new : Option (List ℕ)) → total_bytes texts ≤ largest_text → IsProgram texts program → DeliversProgram (λ status bytes. Delivers code status bytes old new) settings program → TellsOfText code → Answers settings texts code old new
+-- the same of a program that was read
+program_has : (D : ℕ → List ℕ → Type 0) (settings : Settings) (texts : List (List ℕ)) (program : Program) → total_bytes texts ≤ largest_text → IsProgram texts program → DeliversRead D settings program → (verdict : Verdict) × IsVerdict settings texts verdict × D (status_of settings verdict) (output_of settings verdict)
+program_has D settings texts program small reads delivers =
+    elim (sound_or_cause program) [
+      | inl s ↦ checked_has D settings texts s.1.0 (first_unbuilt s.1.0.statements) refl small (record { source = program; reads = reads; sound = s.0; replaced = s.1.1 }) (delivers.checked s.0 s.1.0 s.1.1)
+      | inr c ↦ (Faulty c.0, (small, record { program = program; reads = reads; first = c.1 }), delivers.faulty c.0 c.1)
+    ]
+
+pub program-answers : (settings : Settings) (texts : List (List ℕ)) (program : Program) (code : ℕ) (old new : Option (List ℕ)) → total_bytes texts ≤ largest_text → IsProgram texts program → DeliversRead (λ status bytes. Delivers code status bytes old new) settings program → TellsOfText code → Answers settings texts code old new
 program-answers settings texts program code old new small reads delivers tells =
-    let has = program_has (λ status bytes. Delivers code status bytes old new) settings texts program (first_unbuilt program.statements) refl small reads delivers in
+    let has = program_has (λ status bytes. Delivers code status bytes old new) settings texts program small reads delivers in
     delivered-answers settings texts has.0 code old new has.1 has.2 tells
 
 -- the same of texts with a fault
@@ -118,6 +134,7 @@ run_kind P false ten twenty = twenty
 status_kind : (settings : Settings) (verdict : Verdict) → ComesOfText (status_of settings verdict)
 status_kind settings (Accepted program) = run_kind ComesOfText (list_any (λ n. nat_lt 0 (count_of (template_of program.statements) n)) (lengths_of settings (count_of (template_of program.statements)))) refl refl
 status_kind settings (Refused fault) = refl
+status_kind settings (Faulty cause) = refl
 status_kind settings (Unbuilt place) = refl
 status_kind settings Large = refl
 
@@ -129,9 +146,9 @@ delivered-kind settings verdict code old new (inr cut) = cut_kind code cut.0
     cut_kind code (inl e) = subst ComesOfText (sym e) refl
     cut_kind code (inr e) = subst ComesOfText (sym e) refl
 
-pub program-kind : (settings : Settings) (texts : List (List ℕ)) (program : Program) (code : ℕ) (old new : Option (List ℕ)) → total_bytes texts ≤ largest_text → IsProgram texts program → DeliversProgram (λ status bytes. Delivers code status bytes old new) settings program → ComesOfText code
+pub program-kind : (settings : Settings) (texts : List (List ℕ)) (program : Program) (code : ℕ) (old new : Option (List ℕ)) → total_bytes texts ≤ largest_text → IsProgram texts program → DeliversRead (λ status bytes. Delivers code status bytes old new) settings program → ComesOfText code
 program-kind settings texts program code old new small reads delivers =
-    let has = program_has (λ status bytes. Delivers code status bytes old new) settings texts program (first_unbuilt program.statements) refl small reads delivers in
+    let has = program_has (λ status bytes. Delivers code status bytes old new) settings texts program small reads delivers in
     delivered-kind settings has.0 code old new has.2
 
 pub fault-kind : (settings : Settings) (fault : ReadFault) (code : ℕ) (old new : Option (List ℕ)) → DeliversFault fault code old new → ComesOfText code
@@ -162,7 +179,40 @@ pub some_verdict : (settings : Settings) (texts : List (List ℕ)) → (verdict 
 some_verdict settings texts = elim (cases_lt largest_text (total_bytes texts)) [
   | inl long ↦ (Large, inl long)
   | inr small ↦ elim (program_or_fault texts) [
-    | inl p ↦ let has = program_has (λ status bytes. Unit {0}) settings texts p.0 (first_unbuilt p.0.statements) refl small p.1 (record { accepted = λ _ _. tt; unbuilt = λ _ _. tt; large = λ _ _. tt }) in (has.0, has.1)
+    | inl p ↦ let has = program_has (λ status bytes. Unit {0}) settings texts p.0 small p.1 (record { checked = λ _ _ _. record { accepted = λ _ _. tt; unbuilt = λ _ _. tt; large = λ _ _. tt }; faulty = λ _ _. tt }) in (has.0, has.1)
     | inr f ↦ (Refused f.0, (small, f.1))
   ]
 ]
+
+-- ---- what a check answers
+
+cut_all : (code : ℕ) (old new : Option (List ℕ)) (settings : Settings) (program : Program) → code ≡ 71 → new ≡ old → DeliversProgram (λ status bytes. Delivers code status bytes old new) settings program
+cut_all code old new settings program is same = record {
+  accepted = λ _ _. inr (inl is, front-of-nothing old new _ same);
+  unbuilt = λ place _. inr (inl is, front-of-nothing old new _ same);
+  large = λ _ _. inr (inl is, front-of-nothing old new _ same);
+}
+
+-- a program that passes is answered as what it is with its constants replaced
+pub passed-delivers : (D : ℕ → List ℕ → Type 0) (settings : Settings) (program checked : Program) → IsSound program → IsReplaced program checked → DeliversProgram D settings checked → DeliversRead D settings program
+passed-delivers D settings program checked sound replaced delivers = record {
+  checked = λ _ other says. subst (DeliversProgram D settings) (one_replaced program checked other replaced says) delivers;
+  faulty = λ cause first. absurd (sound_none program cause sound first);
+}
+
+first_delivers : (settings : Settings) (program : Program) (cause : CheckFault) (code : ℕ) (old new : Option (List ℕ)) → IsFirstCause program cause → Delivers code 65 (cause_line cause) old new → DeliversRead (λ status bytes. Delivers code status bytes old new) settings program
+first_delivers settings program cause code old new is delivered = record {
+  checked = λ sound other says. absurd (sound_none program cause sound is);
+  faulty = λ other first. subst (λ (c : CheckFault). Delivers code 65 (cause_line c) old new) (one_cause program cause other is first) delivered;
+}
+
+-- and one that doesn't is answered by its first cause, unless memory runs out
+pub cause-delivers : (settings : Settings) (program : Program) (cause : CheckFault) (code : ℕ) (old new : Option (List ℕ)) → (cause ≢ causes.Memory → IsFirstCause program cause) → DeliversCause cause code old new → DeliversRead (λ status bytes. Delivers code status bytes old new) settings program
+cause-delivers settings program causes.Memory code old new of delivered = record {
+  checked = λ sound other says. cut_all code old new settings other delivered.0 delivered.1;
+  faulty = λ other first. inr (inl delivered.0, front-of-nothing old new _ delivered.1);
+}
+cause-delivers settings program (causes.Unbound place name) code old new of delivered = first_delivers settings program (causes.Unbound place name) code old new (of (λ e. cc)) delivered
+cause-delivers settings program (causes.Arrow place) code old new of delivered = first_delivers settings program (causes.Arrow place) code old new (of (λ e. cc)) delivered
+cause-delivers settings program (causes.Prime place) code old new of delivered = first_delivers settings program (causes.Prime place) code old new (of (λ e. cc)) delivered
+cause-delivers settings program (causes.Const place name) code old new of delivered = first_delivers settings program (causes.Const place name) code old new (of (λ e. cc)) delivered

@@ -14,15 +14,21 @@ use Rattle.tel_settings.specs.Run.{lengths_of, run_status}
 use Rattle.part_syntax.specs.declared.fault.ReadFault.{ReadFault}
 use Rattle.part_syntax.specs.declared.fault.ReadFault.TheVariants as faults
 use Rattle.part_syntax.specs.Programs.{IsProgram, IsFirstFault, total_bytes}
+use Rattle.rule_constants.specs.Replaced.{IsReplaced}
+use Rattle.rule_check.specs.declared.faults.CheckFault.{CheckFault}
+use Rattle.rule_check.specs.declared.faults.CheckFault.TheVariants as causes
+use Rattle.rule_check.specs.Causes.{IsSound, IsFirstCause}
 use Rattle.telingo_cli.specs.Reading.{largest_text}
 use Rattle.telingo_cli.specs.Plain.{first_unbuilt}
 use Rattle.telingo_cli.specs.Naming.{atoms_of, most_atoms}
 use Rattle.telingo_cli.specs.Grounding.{template_of}
 
--- Accepted as this program; refused for their first fault, for a statement that isn't plain, or for their size.
+-- Accepted as this program, whose constants are replaced by their values; refused for their first fault, for the first cause of a statement, for a
+-- statement that isn't plain, or for their size.
 pub data Verdict : Type 0 where
   Accepted : Program → Verdict
   Refused : ReadFault → Verdict
+  Faulty : CheckFault → Verdict
   Unbuilt : Place → Verdict
   Large : Verdict
 
@@ -30,22 +36,36 @@ pub data Verdict : Type 0 where
 abbrev pub places_of : Settings → Program → ℕ
 places_of settings program = max settings.imax 1 * length (atoms_of program.statements)
 
--- the texts are this program, whose statements are all plain
+-- the texts are a program in which no cause stands, and with its constants replaced it is this one
+pub record SayChecked (texts : List (List ℕ)) (program : Program) : Type 0 where
+  pub source : Program
+  pub reads : IsProgram texts source
+  pub sound : IsSound source
+  pub replaced : IsReplaced source program
+
+-- and all statements are plain
 pub record SayPlain (texts : List (List ℕ)) (program : Program) : Type 0 where
-  pub reads : IsProgram texts program
+  pub checked : SayChecked texts program
   pub plain : first_unbuilt program.statements ≡ None
 
--- the texts are a program, whose first statement that isn't plain stands here
-pub record SayUnbuilt (texts : List (List ℕ)) (place : Place) : Type 0 where
+-- the texts are a program whose first cause is this one
+pub record SayFaulty (texts : List (List ℕ)) (cause : CheckFault) : Type 0 where
   pub program : Program
   pub reads : IsProgram texts program
+  pub first : IsFirstCause program cause
+
+-- the texts are a program in which no cause stands, and its first statement that isn't plain stands here
+pub record SayUnbuilt (texts : List (List ℕ)) (place : Place) : Type 0 where
+  pub program : Program
+  pub checked : SayChecked texts program
   pub first : first_unbuilt program.statements ≡ Some place
 
--- The size is looked at first, then the grammar, then which statements are plain, and then the number of different names at the
--- greatest length.
+-- The size is looked at first, then the grammar, then the causes of statements, then which statements are plain, and then the number of different names
+-- at the greatest length.
 abbrev pub IsVerdict : Settings → List (List ℕ) → Verdict → Type 0
 IsVerdict settings texts (Accepted program) = (total_bytes texts ≤ largest_text) × SayPlain texts program × (places_of settings program ≤ most_atoms)
 IsVerdict settings texts (Refused fault) = (total_bytes texts ≤ largest_text) × IsFirstFault texts fault
+IsVerdict settings texts (Faulty cause) = (total_bytes texts ≤ largest_text) × SayFaulty texts cause
 IsVerdict settings texts (Unbuilt place) = (total_bytes texts ≤ largest_text) × SayUnbuilt texts place
 IsVerdict settings texts Large = (largest_text < total_bytes texts) ⊎ ((total_bytes texts ≤ largest_text) × ((program : Program) × SayPlain texts program × (most_atoms < places_of settings program)))
 
@@ -65,6 +85,7 @@ printed_run settings program = flat_map (printed_length program) (lengths_of set
 abbrev pub status_of : Settings → Verdict → ℕ
 status_of settings (Accepted program) = run_status settings (count_of (template_of program.statements))
 status_of settings (Refused fault) = 65
+status_of settings (Faulty cause) = 65
 status_of settings (Unbuilt place) = 65
 status_of settings Large = 69
 
@@ -81,9 +102,12 @@ position_text place = decimal place.line ++ codes ":" ++ decimal place.at
 abbrev pub place_text : Place → List ℕ
 place_text place = decimal place.file ++ codes ":" ++ position_text place
 
--- the line of a refusal that has a place
+-- the end of the line of a refusal that has a place
+abbrev pub end_at : Place → List ℕ
+end_at place = codes " at " ++ place_text place ++ codes "\n"
+
 abbrev pub line_at : List ℕ → Place → List ℕ
-line_at cause place = codes "error: " ++ cause ++ codes " at " ++ place_text place ++ codes "\n"
+line_at cause place = codes "error: " ++ cause ++ end_at place
 
 -- the cause and the place of a fault of the reader; want of memory has none
 abbrev pub named : ReadFault → Option (List ℕ × Place)
@@ -96,6 +120,14 @@ named faults.Memory = None
 abbrev pub fault_line : ReadFault → List ℕ
 fault_line fault = option_map_or (λ cause. line_at cause.0 cause.1) (named fault) []
 
+-- the line of a cause; want of memory has none
+abbrev pub cause_line : CheckFault → List ℕ
+cause_line (causes.Unbound place name) = line_at (codes "Unbound " ++ name) place
+cause_line (causes.Arrow place) = line_at (codes "Arrow") place
+cause_line (causes.Prime place) = line_at (codes "Prime") place
+cause_line (causes.Const place name) = line_at (codes "Const " ++ name) place
+cause_line causes.Memory = []
+
 abbrev pub unbuilt_line : Place → List ℕ
 unbuilt_line place = line_at (codes "Unbuilt") place
 
@@ -107,6 +139,7 @@ read_line place = codes "error: read " ++ decimal (place + 1) ++ codes "\n"
 abbrev pub output_of : Settings → Verdict → List ℕ
 output_of settings (Accepted program) = printed_run settings (template_of program.statements)
 output_of settings (Refused fault) = fault_line fault
+output_of settings (Faulty cause) = cause_line cause
 output_of settings (Unbuilt place) = unbuilt_line place
 output_of settings Large = large_line
 

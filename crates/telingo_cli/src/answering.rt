@@ -9,15 +9,16 @@ ghost use Rattle.telingo_cli.specs.Naming.{most_atoms};
 ghost use Rattle.telingo_cli.specs.Grounding.{template_of};
 ghost use Rattle.telingo_cli.specs.Delivery.{code_of, Delivers, TellsFaults};
 ghost use Rattle.telingo_cli.specs.Verdict.{Verdict, Accepted, IsVerdict, places_of, count_of, printed_run, status_of, output_of, large_line, unbuilt_line, TellsOfText, ComesOfText, Answers};
-ghost use Rattle.telingo_cli.specs.Refusals.{DeliversFault, IsPlainFault};
+ghost use Rattle.telingo_cli.specs.Refusals.{DeliversFault, DeliversCause, DeliversRead, IsPlainFault};
 
 use crate::grounding::template;
 use crate::naming::TemplateFault;
 use crate::plain::{PlainFault, first_unbuilt};
-use crate::refusing::{refuse_at, refuse_large};
+use crate::refusing::{refuse_at, refuse_large, refuse_named};
 use crate::running::{RunFault, print_run};
 use crate::status::Status;
 use part_syntax::{ReadFault, read};
+use rule_check::{CheckFault, check};
 use std::alloc::Global;
 use tel_base::{Sink, Text};
 use tel_rule::{Program, Template};
@@ -87,7 +88,7 @@ fn build(alloc: Global, settings: &Settings, program: &Program) -> Result<Templa
     Ok(template)
 }
 
-/// Answers a program, which may have a statement that isn't plain, or too many names.
+/// Answers a program without a cause, which may have a statement that isn't plain, or too many names.
 fn answer_program<O: Sink>(
     alloc: Global,
     out: &mut O,
@@ -108,6 +109,36 @@ fn answer_program<O: Sink>(
         Err(PlainFault::Unbuilt(place)) => refuse_at(out, b"Unbuilt", place),
         Err(PlainFault::Large) => refuse_large(out),
         Err(PlainFault::Memory) => Status::Memory,
+    }
+}
+
+/// Answers a program for its first cause.
+fn answer_cause<O: Sink>(out: &mut O, cause: &CheckFault) -> Status
+    ensures delivers { DeliversCause cause.now (code_of result) (O.bytes out.old) (O.bytes out.new) }
+    ensures faults { TellsFaults (code_of result) (O.faults out.old) (O.faults out.new) }
+{
+    match cause {
+        CheckFault::Unbound(place, name) => {
+            refuse_named(out, b"error: Unbound ", name.as_slice(), *place)
+        }
+        CheckFault::Arrow(place) => refuse_at(out, b"Arrow", *place),
+        CheckFault::Prime(place) => refuse_at(out, b"Prime", *place),
+        CheckFault::Const(place, name) => {
+            refuse_named(out, b"error: Const ", name.as_slice(), *place)
+        }
+        CheckFault::Memory => Status::Memory,
+    }
+}
+
+/// Answers a program as it is read.
+fn answer_read<O: Sink>(alloc: Global, out: &mut O, settings: &Settings, program: Program) -> Status
+    requires { length program.statements < 2 ^ 32 }
+    ensures delivers { DeliversRead (λ status bytes. Delivers (code_of result) status bytes (O.bytes out.old) (O.bytes out.new)) settings.now program }
+    ensures faults { TellsFaults (code_of result) (O.faults out.old) (O.faults out.new) }
+{
+    match check(alloc, program) {
+        Ok(checked) => answer_program(alloc, out, settings, checked.program()),
+        Err(cause) => answer_cause(out, &cause),
     }
 }
 
@@ -136,7 +167,7 @@ pub fn answer<O: Sink>(alloc: Global, out: &mut O, settings: &Settings, texts: &
     ensures faults { TellsFaults (code_of result) (O.faults out.old) (O.faults out.new) }
 {
     match read(alloc, texts) {
-        Ok(program) => answer_program(alloc, out, settings, &program),
+        Ok(program) => answer_read(alloc, out, settings, program),
         Err(fault) => answer_fault(out, fault),
     }
 }

@@ -1,12 +1,14 @@
 //! The one line of a refusal, which goes out in one piece.
-ghost use Rattle.std.specs.Prelude.{◌≡◌, ℕ, ◌+◌, ◌^◌, ◌<◌, ◌≤◌, ◌++◌, [], length, codes, decimal};
+ghost use Rattle.std.specs.Prelude.{◌≡◌, ℕ, ◌+◌, ◌^◌, ◌<◌, ◌≤◌, ◌++◌, [], length, codes, decimal, OnOk, OnErr};
 ghost use Rattle.telingo_cli.specs.Delivery.{code_of, Delivers, TellsFaults};
-ghost use Rattle.telingo_cli.specs.Verdict.{usage_line, large_line, line_at, read_line, place_text, position_text};
+ghost use Rattle.tel_base.specs.Bytes.{Appends, AppendsFront};
+ghost use Rattle.tel_base.specs.Counts.{HasCause};
+ghost use Rattle.telingo_cli.specs.Verdict.{usage_line, large_line, line_at, end_at, read_line, place_text, position_text};
 
 use crate::status::Status;
 use arrayvec::ArrayVec;
 use itoa::Buffer;
-use tel_base::{Place, Sink, write_whole};
+use tel_base::{Failed, Place, Sink, write_whole};
 
 /// How many bytes a line has at most.
 const ROOM: usize = 128;
@@ -54,6 +56,16 @@ fn push_place<const SIZE: usize>(line: &mut ArrayVec<u8, SIZE>, place: Place)
     push_position(line, place);
 }
 
+/// Adds the end of a line, which says a place.
+fn push_end<const SIZE: usize>(line: &mut ArrayVec<u8, SIZE>, place: Place)
+    requires { length line.old.items + 67 ≤ SIZE }
+    ensures { line.new.items ≡ line.old.items ++ end_at place }
+{
+    push(line, b" at ");
+    push_place(line, place);
+    push(line, b"\n");
+}
+
 /// Fills a line with a cause and a place.
 fn fill_at<const SIZE: usize>(line: &mut ArrayVec<u8, SIZE>, cause: &[u8], place: Place)
     requires empty { line.old.items ≡ [] }
@@ -62,9 +74,7 @@ fn fill_at<const SIZE: usize>(line: &mut ArrayVec<u8, SIZE>, cause: &[u8], place
 {
     push(line, b"error: ");
     push(line, cause);
-    push(line, b" at ");
-    push_place(line, place);
-    push(line, b"\n");
+    push_end(line, place);
 }
 
 /// Fills a line for a failed read of the file word at this place, from 0.
@@ -127,4 +137,42 @@ pub fn refuse_read<O: Sink>(out: &mut O, place: usize) -> Status
     let mut line: ArrayVec<u8, ROOM> = ArrayVec::new();
     fill_read(&mut line, place);
     refuse(out, line.as_slice(), Status::Read)
+}
+
+/// Writes three pieces one after another.
+fn write_three<O: Sink>(
+    out: &mut O,
+    first: &[u8],
+    second: &[u8],
+    third: &[u8],
+) -> Result<(), Failed>
+    ensures ok { OnOk result (Appends (O.bytes out.old) (O.bytes out.new) (first.now ++ (second.now ++ third.now))) }
+    ensures err { OnErr result (AppendsFront (O.bytes out.old) (O.bytes out.new) (first.now ++ (second.now ++ third.now))) }
+    ensures cause { HasCause (O.faults out.old) (O.faults out.new) result }
+{
+    write_whole(out, first)?;
+    write_two(out, second, third)
+}
+
+/// Writes two pieces one after the other.
+fn write_two<O: Sink>(out: &mut O, first: &[u8], second: &[u8]) -> Result<(), Failed>
+    ensures ok { OnOk result (Appends (O.bytes out.old) (O.bytes out.new) (first.now ++ second.now)) }
+    ensures err { OnErr result (AppendsFront (O.bytes out.old) (O.bytes out.new) (first.now ++ second.now)) }
+    ensures cause { HasCause (O.faults out.old) (O.faults out.new) result }
+{
+    write_whole(out, first)?;
+    write_whole(out, second)
+}
+
+/// Answers texts that are refused for a cause that has a name, of whatever length, at this place. `cause` is the front of the line.
+pub fn refuse_named<O: Sink>(out: &mut O, cause: &[u8], name: &[u8], place: Place) -> Status
+    ensures delivers { Delivers (code_of result) 65 (cause.now ++ (name.now ++ end_at place)) (O.bytes out.old) (O.bytes out.new) }
+    ensures faults { TellsFaults (code_of result) (O.faults out.old) (O.faults out.new) }
+{
+    let mut end: ArrayVec<u8, ROOM> = ArrayVec::new();
+    push_end(&mut end, place);
+    match write_three(out, cause, name, end.as_slice()) {
+        Ok(()) => Status::Refused,
+        Err(_) => Status::Write,
+    }
 }

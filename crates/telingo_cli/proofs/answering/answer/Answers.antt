@@ -5,22 +5,16 @@ use Rattle.telingo_cli.proofs.answering.answer.Goals as goal
 pub returns-in-Ok-clause-delivers : goal.returns-in-Ok-clause-delivers
 returns-in-Ok-clause-delivers g c =
     let old = g.O.Sink.bytes c.args.out.now in
-    let new = g.O.Sink.bytes c.answer_program.new.out in
-    let is = c.answer_program.ensures in
-    program-delivers (λ status bytes. Delivers (code_of c.answer_program.result) status bytes old new) c.args.settings.now c.args.texts.now c.in-Ok.program c.requires.small c.in-Ok.ensures.only c.in-Ok.ensures.sound
-    (record { accepted = is.accepted; unbuilt = is.unbuilt; large = is.large })
+    let new = g.O.Sink.bytes c.answer_read.new.out in
+    program-delivers (λ status bytes. Delivers (code_of c.answer_read.result) status bytes old new) c.args.settings.now c.args.texts.now c.in-Ok.program c.requires.small c.in-Ok.ensures.only c.in-Ok.ensures.sound c.answer_read.ensures.delivers
 
 pub returns-in-Ok-clause-answers : goal.returns-in-Ok-clause-answers
 returns-in-Ok-clause-answers g c =
-    let is = c.answer_program.ensures in
-    program-answers c.args.settings.now c.args.texts.now c.in-Ok.program _ (g.O.Sink.bytes c.args.out.now) (g.O.Sink.bytes c.answer_program.new.out) c.requires.small c.in-Ok.ensures.ok
-    (record { accepted = is.accepted; unbuilt = is.unbuilt; large = is.large })
+    program-answers c.args.settings.now c.args.texts.now c.in-Ok.program _ (g.O.Sink.bytes c.args.out.now) (g.O.Sink.bytes c.answer_read.new.out) c.requires.small c.in-Ok.ensures.ok c.answer_read.ensures.delivers
 
 pub returns-in-Ok-clause-kind : goal.returns-in-Ok-clause-kind
 returns-in-Ok-clause-kind g c =
-    let is = c.answer_program.ensures in
-    program-kind c.args.settings.now c.args.texts.now c.in-Ok.program _ (g.O.Sink.bytes c.args.out.now) (g.O.Sink.bytes c.answer_program.new.out) c.requires.small c.in-Ok.ensures.ok
-    (record { accepted = is.accepted; unbuilt = is.unbuilt; large = is.large })
+    program-kind c.args.settings.now c.args.texts.now c.in-Ok.program _ (g.O.Sink.bytes c.args.out.now) (g.O.Sink.bytes c.answer_read.new.out) c.requires.small c.in-Ok.ensures.ok c.answer_read.ensures.delivers
 
 pub returns-in-Err-clause-delivers : goal.returns-in-Err-clause-delivers
 returns-in-Err-clause-delivers g c =
