@@ -4,7 +4,7 @@ ghost use Rattle.tel_base.specs.Literals.{lit_of, negate};
 use std::marker::Model;
 
 /// A variable or its negation. The order is by variable, the negation before the variable itself.
-#[derive(Clone, Copy, Debug, PartialEq, Eq, PartialOrd, Ord)]
+#[derive(Clone, Copy, Debug, Default, PartialEq, Eq, PartialOrd, Ord)]
 pub struct Lit {
     pub var: u32,
     /// Whether it is the variable itself.
