@@ -1,6 +1,6 @@
 -- The walk along the trail up to the first UIP.
 use Rattle.std.proofs.Common.{◌≡◌, ℕ, zero, suc, ◌+◌, ◌<◌, ◌≤◌, Bool, true, false, cond, not, ◌&&◌, ◌||◌, List, [], ◌∷◌, length, get_or, drop, refl, sym, ap, subst, inr, ◌∙◌, ⊎_elim, arith}
-use Rattle.std.specs.Prelude.{Option, Some, None, ◌==◌, nat_lt, vec_capacity}
+use Rattle.std.specs.Prelude.{Option, Some, None, ◌==◌, nat_lt}
 use Rattle.std.proofs.lemmas.List.{drop_all, drop_more}
 use Rattle.std.proofs.lemmas.Bool.{and_parts, and_from, or_cases, or_left, eq-eqb, eqb-true, ltb-true, cases_Bool, cond-true, cond-false, false≢true, not_from_false, not-true}
 use Rattle.tel_base.specs.declared.literals.Lit.{Lit}
@@ -292,5 +292,5 @@ here_range trail notes place entry ready l e =
 pub record Walking (clauses : List Clause) (trail : View) (old notes : Notes) (place : ℕ) : Type 0 where
   pub ready : AreReady trail notes
   pub size : length notes.marks.items ≡ length old.marks.items
-  pub capacity : vec_capacity old.lits ≤ vec_capacity notes.lits
+  pub capacity : old.lits.capacity ≤ notes.lits.capacity
   pub state : (set : Lits) → IsNoted trail set old → HasLeft trail set → Resolving clauses trail set notes place

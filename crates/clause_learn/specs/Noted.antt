@@ -1,5 +1,5 @@
 -- The notes that stand for a set of false literals: marks, a count, and a list.
-use Rattle.std.specs.Prelude.{◌≡◌, ℕ, suc, ◌+◌, ◌^◌, ◌<◌, ◌≤◌, Bool, false, ◌&&◌, ◌||◌, List, [], ◌∷◌, length, nat_lt, slice_set, Some, ◌==◌, vec_capacity, IsTrue, if◌then◌else◌, ◌⊎◌}
+use Rattle.std.specs.Prelude.{◌≡◌, ℕ, suc, ◌+◌, ◌^◌, ◌<◌, ◌≤◌, Bool, false, ◌&&◌, ◌||◌, List, [], ◌∷◌, length, nat_lt, slice_set, Some, ◌==◌, IsTrue, if◌then◌else◌, ◌⊎◌}
 use Rattle.tel_base.specs.declared.literals.Lit.{Lit}
 use Rattle.tel_base.specs.Literals.{negate}
 use Rattle.clause_store.specs.Held.{are_distinct}
@@ -71,7 +71,7 @@ pub record AreReady (trail : View) (notes : Notes) : Type 0 where
   pub small : trail.vars + 1 < 2 ^ 32
   pub opened : 0 < trail.level
   pub marks : trail.vars ≤ length notes.marks.items
-  pub room : trail.vars ≤ vec_capacity notes.lits
+  pub room : trail.vars ≤ notes.lits.capacity
 
 -- the literal is false, or its variable is marked
 abbrev pub FalseOrMarked : View → Notes → Lit → Type 0

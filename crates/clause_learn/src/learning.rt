@@ -14,6 +14,7 @@ ghost use Rattle.clause_learn.specs.Lending.{StaysGrown};
 use crate::notes::{Notes, unmark};
 use clause_store::{ClauseId, Store};
 use lit_trail::Trail;
+use smallvec::SmallVec;
 use std::alloc::Global;
 use std::marker::Model;
 use tel_base::{Lit, Memory};
@@ -28,13 +29,13 @@ pub struct Scratch {
 
 impl Model for Scratch {
     ghost use Rattle.clause_learn.specs.Room.{Room, IsScratch};
-    ghost use Rattle.std.specs.Prelude.{length, vec_capacity};
+    ghost use Rattle.std.specs.Prelude.{length};
 
     ghost Value = { Room };
 
     ghost view = { λ scratch. record { vars = length scratch.notes.marks.items } };
 
-    ghost invariant = { λ scratch. IsScratch scratch.notes.marks.items (vec_capacity scratch.notes.lits) };
+    ghost invariant = { λ scratch. IsScratch scratch.notes.marks.items scratch.notes.lits.capacity };
 }
 
 impl Scratch {
@@ -45,7 +46,7 @@ impl Scratch {
         Scratch {
             notes: Notes {
                 marks: Vec::new(alloc),
-                lits: Vec::new(alloc),
+                lits: SmallVec::new(alloc),
                 left: 0,
             },
         }
@@ -121,9 +122,9 @@ fn resolve_conflict(notes: &mut Notes, store: &Store, trail: &Trail, id: ClauseI
     requires level { 0 < trail.now.level }
     requires left { IsTrue (has_more trail.now.level trail.now.entries (set_of (clause_at (clauses_in store.now.clauses) id.place))) }
     requires grown { trail.now.vars ≤ length notes.old.marks.items }
-    requires scratch { IsScratch notes.old.marks.items (vec_capacity notes.old.lits) }
+    requires scratch { IsScratch notes.old.marks.items notes.old.lits.capacity }
     ensures size { length notes.new.marks.items ≡ length notes.old.marks.items }
-    ensures scratch { IsScratch notes.new.marks.items (vec_capacity notes.new.lits) }
+    ensures scratch { IsScratch notes.new.marks.items notes.new.lits.capacity }
     ensures learnt { IsLearnt (clauses_in store.now.clauses) trail.now (clause_at (clauses_in store.now.clauses) id.place) notes.new.lits.items }
     ensures level { result ≡ highest trail.now.entries (others_of notes.new.lits.items) }
     ensures lower { result < trail.now.level }

@@ -1,6 +1,6 @@
 //! The clause that is being resolved, as notes.
 
-ghost use Rattle.std.specs.Prelude.{◌≡◌, ℕ, ◌+◌, ◌<◌, ◌≤◌, [], ◌∷◌, ◌++◌, List, Some, IsTrue, length, vec_capacity};
+ghost use Rattle.std.specs.Prelude.{◌≡◌, ℕ, ◌+◌, ◌<◌, ◌≤◌, Some, IsTrue, length};
 ghost use Rattle.tel_base.specs.declared.literals.Lit.{Lit as ALit};
 ghost use Rattle.clause_store.specs.Closure.{In, Lits};
 ghost use Rattle.clause_store.specs.Held.{clauses_in};
@@ -12,6 +12,7 @@ ghost use Rattle.clause_learn.specs.Room.{marked_at};
 
 use clause_store::Store;
 use lit_trail::Trail;
+use smallvec::SmallVec;
 use tel_base::Lit;
 
 /// A clause whose literals are false, as far as its levels above 0 are concerned.
@@ -19,8 +20,8 @@ use tel_base::Lit;
 pub struct Notes {
     /// By variable, whether a literal of it is in the clause.
     pub marks: Vec<bool>,
-    /// The literals below the trail's level.
-    pub lits: Vec<Lit>,
+    /// The literals below the trail's level. A short list lies in place.
+    pub lits: SmallVec<Lit, 16>,
     /// How many literals are of the trail's level.
     pub left: usize,
 }
@@ -41,7 +42,7 @@ impl Notes {
         ensures ready { AreReady trail.now self.new }
         ensures marks { MarksStay self.old self.new }
         ensures size { length self.new.marks.items ≡ length self.old.marks.items }
-        ensures capacity { vec_capacity self.old.lits ≤ vec_capacity self.new.lits }
+        ensures capacity { self.old.lits.capacity ≤ self.new.lits.capacity }
         ensures noted { Leads trail.now (λ set. added trail.now.entries set lit) self.old self.new }
     {
         let var = lit.var as usize;
@@ -56,7 +57,7 @@ impl Notes {
                     self.left += 1;
                 } else if level > 0 {
                     self.marks[var] = true;
-                    put(&mut self.lits, lit);
+                    self.lits.push_reserved(lit);
                 }
             }
         }
@@ -70,7 +71,7 @@ impl Notes {
         ensures ready { AreReady trail.now self.new }
         ensures marks { MarksStay self.old self.new }
         ensures size { length self.new.marks.items ≡ length self.old.marks.items }
-        ensures capacity { vec_capacity self.old.lits ≤ vec_capacity self.new.lits }
+        ensures capacity { self.old.lits.capacity ≤ self.new.lits.capacity }
         ensures noted { Leads trail.now (λ set. joined trail.now.entries set clause.now) self.old self.new }
     {
         for lit in clause {
@@ -88,7 +89,7 @@ impl Notes {
         requires others { OthersFalse trail.now lit reason.now }
         ensures ready { AreReady trail.now self.new }
         ensures size { length self.new.marks.items ≡ length self.old.marks.items }
-        ensures capacity { vec_capacity self.old.lits ≤ vec_capacity self.new.lits }
+        ensures capacity { self.old.lits.capacity ≤ self.new.lits.capacity }
         ensures noted { Leads trail.now (λ set. resolvent set lit reason.now) self.old self.new }
     {
         self.add(reason, trail);
@@ -105,7 +106,7 @@ impl Notes {
         requires reasons { ReasonsHold (clauses_in store.now.clauses) trail.now.entries }
         ensures ready { AreReady trail.now self.new }
         ensures size { length self.new.marks.items ≡ length self.old.marks.items }
-        ensures capacity { vec_capacity self.old.lits ≤ vec_capacity self.new.lits }
+        ensures capacity { self.old.lits.capacity ≤ self.new.lits.capacity }
         ensures resolved { Resolves (clauses_in store.now.clauses) trail.now result self.old self.new }
     {
         for place in 0..places {
@@ -131,17 +132,5 @@ pub fn unmark(marks: &mut Vec<bool>, lits: &[Lit])
 {
     for lit in lits {
         marks[lit.var as usize] = false;
-    }
-}
-
-/// Puts a literal at the end, where there is room.
-fn put(lits: &mut Vec<Lit>, lit: Lit)
-    requires { length lits.old.items < vec_capacity lits.old }
-    ensures items { lits.new.items ≡ lits.old.items ++ lit ∷ [] }
-    ensures room { vec_capacity lits.old ≤ vec_capacity lits.new }
-{
-    match lits.push(lit) {
-        Ok(()) => {}
-        Err(_) => unreachable!(),
     }
 }

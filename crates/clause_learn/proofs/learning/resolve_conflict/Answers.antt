@@ -1,4 +1,5 @@
 use Rattle.std.proofs.Common.{◌∙◌, List, sym, subst, ap, length, refl, inl, arith}
+use Rattle.std.proofs.lemmas.Bool.{false≢true}
 use Rattle.std.proofs.lemmas.List.{length-map}
 use Rattle.tel_base.specs.declared.literals.Lit.{Lit}
 use Rattle.tel_base.specs.Literals.{negate}
@@ -47,9 +48,7 @@ unreachable-requires c =
     let end = c.resolve-first.ensures.resolved (set_of clause) noted c.requires.left in
     let few = first_room trail uip_set notes first ready end.0 end.1 in
     let room = ready.room in
-    let full = c.in-Err.ensures.full in
-    let ok = notes.lits.ok in
-    absurd (omega (arith, few, room, full, ok))
+    absurd (false≢true (c.in-Err.ensures.succeeds (omega (arith, few, room))))
 
 pub unmark-requires : goal.unmark-requires
 unmark-requires c lit i =
@@ -63,7 +62,7 @@ unmark-requires c lit i =
     let ready = c.resolve-first.ensures.ready in
     let uip_set : Lits = first_uip clauses trail.level trail.entries (set_of clause) in
     let end = c.resolve-first.ensures.resolved (set_of clause) noted c.requires.left in
-    let same = c.deref-2.ensures.value ∙ c.in-Ok.ensures.items in
+    let same = c.deref-2.ensures ∙ c.in-Ok.ensures.ok in
     let v = first_range trail uip_set notes first lit ready end.0 end.1 (subst (λ (xs : List Lit). In lit xs) same i) in
     let marks = ready.marks in
     omega (arith, v, marks)
@@ -84,7 +83,7 @@ returns-clause-scratch c =
     let ready = c.resolve-first.ensures.ready in
     let uip_set : Lits = first_uip clauses trail.level trail.entries (set_of clause) in
     let end = c.resolve-first.ensures.resolved (set_of clause) noted c.requires.left in
-    let same = c.deref-2.ensures.value ∙ c.in-Ok.ensures.items in
+    let same = c.deref-2.ensures ∙ c.in-Ok.ensures.ok in
     let size = ap length c.unmark.ensures ∙ length_unmarked c.deref-2.result.now notes.marks.items ∙ c.resolve-first.ensures.size ∙ c.add.ensures.size in
     let room = c.requires.scratch.room in
     let a = c.clear.ensures.capacity in
@@ -110,7 +109,7 @@ returns-clause-learnt c =
     let end = c.resolve-first.ensures.resolved (set_of clause) noted c.requires.left in
     let within = c.requires.id in
     let n = length-map c.args.store.now.clauses (λ (h : Held). h.lits) in
-    subst (IsLearnt clauses trail clause) (sym c.in-Ok.ensures.items) (is_learnt clauses trail notes first c.args.id (omega (arith, within, n)) ready c.requires.reasons end.0 end.1)
+    subst (IsLearnt clauses trail clause) (sym c.in-Ok.ensures.ok) (is_learnt clauses trail notes first c.args.id (omega (arith, within, n)) ready c.requires.reasons end.0 end.1)
 
 pub returns-clause-lower : goal.returns-clause-lower
 returns-clause-lower c =
@@ -125,7 +124,7 @@ returns-clause-lower c =
     let uip_set : Lits = first_uip clauses trail.level trail.entries (set_of clause) in
     let end = c.resolve-first.ensures.resolved (set_of clause) noted c.requires.left in
     let low = lower_back trail uip_set notes ready end.0 in
-    let level = c.highest_level-level.ensures ∙ ap (highest trail.entries) c.deref.ensures.value in
+    let level = c.highest_level-level.ensures ∙ ap (highest trail.entries) c.deref.ensures in
     omega (arith, low, level)
 
 pub returns-clause-asserting : goal.returns-clause-asserting
@@ -140,5 +139,5 @@ returns-clause-asserting c =
     let ready = c.resolve-first.ensures.ready in
     let uip_set : Lits = first_uip clauses trail.level trail.entries (set_of clause) in
     let end = c.resolve-first.ensures.resolved (set_of clause) noted c.requires.left in
-    let level = c.highest_level-level.ensures ∙ ap (highest trail.entries) c.deref.ensures.value in
-    subst (IsAsserting (back c.highest_level-level.result trail.entries)) (sym c.in-Ok.ensures.items) (is_asserting trail uip_set notes first c.highest_level-level.result ready end.0 end.1 level)
+    let level = c.highest_level-level.ensures ∙ ap (highest trail.entries) c.deref.ensures in
+    subst (IsAsserting (back c.highest_level-level.result trail.entries)) (sym c.in-Ok.ensures.ok) (is_asserting trail uip_set notes first c.highest_level-level.result ready end.0 end.1 level)

@@ -1,5 +1,4 @@
 use Rattle.std.proofs.Common.{◌≡◌, ◌≤◌, drop, length}
-use Rattle.std.specs.Prelude.{vec_capacity}
 use Rattle.clause_store.specs.Closure.{Lits}
 use Rattle.clause_learn.specs.Noted.{AreReady, MarksStay, IsNoted, joined}
 use Rattle.clause_learn.proofs.notes.Notes.add.Given as goal
@@ -9,6 +8,6 @@ invariant-loop-lit l = record {
   ready : AreReady l.trail l.self;
   marks : MarksStay l.initial.self l.self;
   size : length l.self.marks.items ≡ length l.initial.self.marks.items;
-  capacity : vec_capacity l.initial.self.lits ≤ vec_capacity l.self.lits;
+  capacity : l.initial.self.lits.capacity ≤ l.self.lits.capacity;
   noted : (set : Lits) → IsNoted l.trail set l.initial.self → (now : Lits) × IsNoted l.trail now l.self × (joined l.trail.entries now (drop l.lit-index l.clause) ≡ joined l.trail.entries set l.clause);
 }

@@ -36,8 +36,8 @@ overflow_add-self c =
     let small = c.requires.ready.small in
     omega (arith, room, small)
 
-pub put-requires : goal.put-requires
-put-requires c =
+pub push_reserved-requires : goal.push_reserved-requires
+push_reserved-requires c =
     let noted = c.requires.noted in
     let range = mark_range c.args.trail.now c.args.self.now c.args.lit c.requires.ready c.requires.lit in
     let unmarked = mark_read c.args.self.now.marks.items c.args.lit.var c.index.result.now range c.index.ensures ∙ c.if-index.false in
@@ -61,7 +61,7 @@ returns-then-level-gt0-clause-noted c set is =
     let unmarked = mark_read c.args.self.now.marks.items c.args.lit.var c.index.result.now range c.index.ensures ∙ c.if-index.false in
     let new = is_new c.args.trail.now set c.args.self.now c.args.lit c.requires.ready is c.requires.lit unmarked in
     let at = same_level c.args.trail.now set c.args.lit c.in-Some.level c.in-Some.ensures new in
-    note_lower c.args.trail.now set c.args.self.now _ c.args.lit c.requires.ready is unmarked range new (subst (λ (n : ℕ). 0 < n) (sym at) c.if-level-gt0.true) (λ e. c.if-level.false (sym at ∙ e ∙ sym c.level.ensures)) refl refl c.put.ensures.items
+    note_lower c.args.trail.now set c.args.self.now _ c.args.lit c.requires.ready is unmarked range new (subst (λ (n : ℕ). 0 < n) (sym at) c.if-level-gt0.true) (λ e. c.if-level.false (sym at ∙ e ∙ sym c.level.ensures)) refl refl c.push_reserved.ensures.items
 
 pub returns-else-level-gt0-clause-noted : goal.returns-else-level-gt0-clause-noted
 returns-else-level-gt0-clause-noted c set is =
