@@ -1,5 +1,5 @@
 -- From what tables decide of each statement, and from the first faulty constant, to the first cause.
-use Rattle.std.proofs.Common.{◌≡◌, ◌≢◌, ℕ, zero, suc, ◌+◌, ◌<◌, ◌≤◌, Bool, true, false, List, [], ◌∷◌, length, get_or, Some, None, refl, sym, ap, subst, ◌∙◌, ◌⊎◌, inl, inr, ⊎_elim, arith}
+use Rattle.std.proofs.Common.{◌≡◌, ◌≢◌, ℕ, ◌+◌, ◌<◌, ◌≤◌, Bool, true, false, List, length, Some, None, refl, sym, ap, subst, ◌∙◌, ◌⊎◌, inl, inr, ⊎_elim, arith}
 use Rattle.std.specs.Prelude.{slice_get}
 use Rattle.std.proofs.lemmas.Bool.{false≢true, cases_order}
 use Rattle.tel_term.specs.declared.terms.Term.{Term}
@@ -12,6 +12,7 @@ use Rattle.tel_semantics.specs.Tables.{is_table}
 use Rattle.rule_binding.specs.Binding.{IsFirstUnbound}
 use Rattle.rule_binding.proofs.Bodies.{one_unbound}
 use Rattle.rule_constants.specs.Constants.{IsSoundConstant, IsFaultyConstant, AreSoundConstants, IsFirstFaulty}
+pub use Rattle.rule_constants.proofs.Definitions.{get-within as get-in, get-at}
 use Rattle.rule_check.specs.declared.faults.CheckFault.{CheckFault}
 use Rattle.rule_check.specs.declared.faults.CheckFault.TheVariants as causes
 use Rattle.rule_check.specs.Causes.{IsUnbound, IsCause, has_bare_arrow, rank, HasNoCause, HaveNoCause, IsSound, IsFirstCause}
@@ -21,7 +22,7 @@ none-bound : (tables : Signature → Bool) (s : Statement) (name : List ℕ) →
 none-bound tables s name none some = let e : None ≡ Some some.0 = one_unbound tables s None (Some some.0) none some.1 in absurd cc
 
 -- a sound constant isn't faulty
-sound-not_faulty : (S : List Statement) (Y : List Term) (n : ℕ) (kind : Kind) (name : List ℕ) → IsSoundConstant S Y n kind → IsFaultyConstant S Y n kind name → ⊥
+pub sound-not_faulty : (S : List Statement) (Y : List Term) (n : ℕ) (kind : Kind) (name : List ℕ) → IsSoundConstant S Y n kind → IsFaultyConstant S Y n kind name → ⊥
 sound-not_faulty S Y n (kinds.Const own expr) name sound faulty =
     ⊎_elim (λ (other : _). other sound.0) (λ none. let h = sound.1.1 in let k = none h.0 in let v = h.1 in absurd cc) faulty.1
 sound-not_faulty S Y n (kinds.Rule head body) name sound faulty = faulty
@@ -40,16 +41,6 @@ faulty-defines S Y n (kinds.Const own expr) other faulty = refl
 faulty-defines S Y n (kinds.Rule head body) other faulty = absurd faulty
 faulty-defines S Y n (kinds.Facts fact) other faulty = absurd faulty
 faulty-defines S Y n (kinds.Show shown) other faulty = absurd faulty
-
-pub get-in : {X : Type 0} (xs : List X) (n : ℕ) (x : X) → slice_get xs n ≡ Some x → n < length xs
-get-in [] n x at = absurd cc
-get-in (y ∷ xs) zero x at = omega arith
-get-in (y ∷ xs) (suc n) x at = let l = get-in xs n x at in omega (arith, l)
-
-pub get-at : {X : Type 0} (xs : List X) (n : ℕ) (d : X) → n < length xs → slice_get xs n ≡ Some (get_or xs n d)
-get-at [] n d l = absurd (omega arith)
-get-at (y ∷ xs) zero d l = refl
-get-at (y ∷ xs) (suc n) d l = get-at xs n d (omega (arith, l))
 
 one_more : (a b : ℕ) → a < b + 1 → (a ≡ b) ⊎ (a < b)
 one_more a b l = ⊎_elim (λ (e : a ≡ b). inl e) (λ m. ⊎_elim (λ (k : a < b). inr k) (λ (k : b < a). absurd (omega (arith, k, l))) m) (cases_order a b)

@@ -17,6 +17,7 @@ use Rattle.rule_constants.proofs.Settling.{value_or_none, some_replaced}
 use Rattle.rule_check.specs.declared.faults.CheckFault.{CheckFault}
 use Rattle.rule_check.specs.declared.faults.CheckFault.TheVariants as causes
 use Rattle.rule_check.specs.Causes.{has_bare_arrow, has_bad_prime, IsUnbound, IsCause, rank, HasNoCause, HaveNoCause, IsSound, IsFirstCause}
+use Rattle.rule_check.proofs.FirstCauses.{sound-not_faulty}
 
 -- ---- variables
 
@@ -44,13 +45,6 @@ some_unbound tables s =
 same_number : (a : Option ℕ) (n : ℕ) → (a ≡ Some n) ⊎ (a ≡ Some n → ⊥)
 same_number None n = inr (λ e. cc)
 same_number (Some m) n = ⊎_elim (λ (e : m ≡ n). inl (ap (λ (k : ℕ). Some k) e)) (λ m'. inr (λ e. let back : m ≡ n = cc in ⊎_elim (λ (l : m < n). omega (arith, l, back)) (λ (l : n < m). omega (arith, l, back)) m')) (cases_order m n)
-
-sound_not_faulty : (p : Program) (n : ℕ) (kind : Kind) (name : List ℕ) → IsSoundConstant p.statements p.symbols n kind → IsFaultyConstant p.statements p.symbols n kind name → ⊥
-sound_not_faulty p n (kinds.Const own expr) name sound faulty =
-    ⊎_elim (λ other. other sound.0) (λ none. let has = sound.1.1 in let never = none has.0 in cc (has.1, never)) faulty.1
-sound_not_faulty p n (kinds.Rule head body) name sound faulty = faulty
-sound_not_faulty p n (kinds.Facts fact) name sound faulty = faulty
-sound_not_faulty p n (kinds.Show shown) name sound faulty = faulty
 
 constant : (p : Program) (n : ℕ) (kind : Kind) → IsSoundConstant p.statements p.symbols n kind ⊎ ((name : List ℕ) × IsFaultyConstant p.statements p.symbols n kind name)
 constant p n (kinds.Const name expr) =
@@ -92,7 +86,7 @@ by_constant p n s bound arrow prime =
     none sound (causes.Unbound q x) is = bound_not p s x bound is.1
     none sound (causes.Arrow q) is = false≢true (sym arrow ∙ is.1)
     none sound (causes.Prime q) is = false≢true (sym prime ∙ is.1)
-    none sound (causes.Const q x) is = sound_not_faulty p n s.kind x sound is.1
+    none sound (causes.Const q x) is = sound-not_faulty p.statements p.symbols n s.kind x sound is.1
     none sound causes.Memory is = is
 
 by_prime : (p : Program) (n : ℕ) (s : Statement) → IsFirstUnbound (is_table p.statements) s None → has_bare_arrow s.kind ≡ false → HasNoCause p n s ⊎ First p n s
