@@ -16,13 +16,14 @@ use rule_constants::replaced_statements;
 use std::alloc::Global;
 use tel_rule::{Program, Signature};
 
-/// A program in which no cause of a `CheckFault` stood, with its constants replaced by their values.
+/// A program in which no cause of a `CheckFault` stands, with its constants replaced by their values.
 #[derive(Drop)]
 pub struct Checked {
     program: Program,
     tables: Tables,
     ghost are_tables: { (predicate : Signature) → tells tables predicate ≡ is_table program.statements predicate },
     ghost is_checked: { ∥ IsCheckedProgram program ∥₁ },
+    ghost is_sound: { IsSound program },
 }
 
 impl Checked {
@@ -30,6 +31,7 @@ impl Checked {
     pub fn program(&self) -> &Program
         ensures program { result.now ≡ self.now.program }
         ensures checked { ∥ IsCheckedProgram result.now ∥₁ }
+        ensures sound { IsSound result.now }
     {
         &self.program
     }
