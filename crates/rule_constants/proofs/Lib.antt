@@ -5,3 +5,5 @@ pub mod Walks
 pub mod Definitions
 pub mod OneReplaced
 pub mod Settling
+pub mod Kept
+pub mod Ended
