@@ -2,3 +2,11 @@ pub mod Examples
 pub mod Fronts
 pub mod Orders
 pub mod SupportRows
+pub mod Signs
+pub mod ListedClauses
+pub mod ShapesHold
+pub mod ShapeValues
+pub mod RuleLists
+pub mod StatedClauses
+pub mod FromClauses
+pub mod ToClauses

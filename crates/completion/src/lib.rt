@@ -2,10 +2,12 @@
 #![tactic(auto)]
 
 mod bodies;
+mod laws;
 mod lists;
 mod modules;
 mod ordering;
 mod shapes;
 mod supports;
 
+pub use laws::completion;
 pub use modules::clauses;

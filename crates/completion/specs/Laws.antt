@@ -1,0 +1,20 @@
+-- The clauses of settled modules say the completion of the length.
+use Rattle.std.specs.Prelude.{ℕ, ◌-◌, ◌<◌, List, IsTrue}
+use Rattle.tel_base.specs.declared.literals.Lit.{Lit}
+use Rattle.tel_base.specs.Members.{In}
+use Rattle.normal_program.specs.declared.modules.StepModule.{StepModule}
+use Rattle.normal_program.specs.StableSets.{Set}
+use Rattle.normal_program.specs.ModuleClauses.{clauses_of}
+use Rattle.completion.specs.Completions.{clause_true, AreSettled, Completes}
+
+-- the assignment makes the clauses of the modules before n true
+abbrev pub SatisfiesClauses : (ℕ → StepModule) → ℕ → Set → Type 0
+SatisfiesClauses steps n S = (t : ℕ) → t < n → (clause : List Lit) → In clause (clauses_of (steps t)) → IsTrue (clause_true S clause)
+
+-- with the end of the state n - 1 such an assignment satisfies the completion
+abbrev pub ClausesGiveCompletion : Type 0
+ClausesGiveCompletion = (steps : ℕ → StepModule) (n : ℕ) (S : Set) → AreSettled steps n → 0 < n → SatisfiesClauses steps n S → IsTrue (S (steps (n - 1)).end) → Completes steps n S
+
+-- an assignment that satisfies the completion makes the clauses true, and has the end
+abbrev pub CompletionGivesClauses : Type 0
+CompletionGivesClauses = (steps : ℕ → StepModule) (n : ℕ) (S : Set) → AreSettled steps n → 0 < n → Completes steps n S → SatisfiesClauses steps n S × IsTrue (S (steps (n - 1)).end)
