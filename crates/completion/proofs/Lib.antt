@@ -10,3 +10,4 @@ pub mod RuleLists
 pub mod StatedClauses
 pub mod FromClauses
 pub mod ToClauses
+pub mod SettledRows
