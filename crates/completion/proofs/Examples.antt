@@ -1,12 +1,8 @@
 -- Clauses of modules, worked out by hand. In written form a variable counts from 1: the modules 0 and 1 of `a.` with greatest length 2 have the clauses
 -- `2 0`, `1 -2 0`, `-1 2 0` and `-3 0`, `-4 0`.
-use Rattle.std.proofs.Common.{◌≡◌, ℕ, true, false, List, [], ◌∷◌, Some, None, refl}
+use Rattle.std.proofs.Common.{◌≡◌, ℕ, true, false, [], ◌∷◌, Some, None, refl}
 use Rattle.tel_base.specs.declared.literals.Lit.{Lit}
-use Rattle.normal_program.specs.declared.rules.NRule.{NRule}
-use Rattle.normal_program.specs.declared.shapes.Shape.TheVariants as shapes
-use Rattle.normal_program.specs.declared.shapes.NodeRule.{NodeRule}
 use Rattle.normal_program.specs.declared.modules.BodyHead.TheVariants as uses
-use Rattle.normal_program.specs.declared.modules.BodyDef.{BodyDef}
 use Rattle.normal_program.specs.declared.modules.StepModule.{StepModule}
 use Rattle.normal_program.specs.Rules.{rule_of}
 use Rattle.normal_program.specs.ModuleClauses.{put_lit, in_order, has_both, clauses_of}

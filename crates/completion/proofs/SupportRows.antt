@@ -18,5 +18,5 @@ rows_support rules low width rows (atom ∷ atoms) at least near =
     let up = leb-true low atom low_parts.0 in
     let back : low + (atom - low) ≡ atom = omega (arith, up) in
     let row : get_or rows (atom - low) [] ≡ bodies_with rules atom =
-        at (atom - low) (ltb-true (atom - low) width near_parts.0) ∙ ap (bodies_with rules) back in
+    at (atom - low) (ltb-true (atom - low) width near_parts.0) ∙ ap (bodies_with rules) back in
     λ i. (no_lit atom ∷ map lit_of (row i)) ∷ rows_support rules low width rows atoms at low_parts.1 near_parts.1 i

@@ -30,7 +30,7 @@ returns-clause-last c apart d =
     let there : get_or xs (suc i) y ≡ y = get_or_default xs (suc i) y none within ∙ ap (λ (k : ℕ). get_or xs k none) (sym next) in
     let here : get_or xs i d ≡ x = get_or_default xs i d none inside in
     let differ : (rank (get_or xs i d) ≡ rank y → ⊥) =
-        λ e. eqb-false c.rank.result c.rank-2.result (not-true (c.rank.result == c.rank-2.result) apart) (c.rank.ensures ∙ ap rank (sym here) ∙ e ∙ sym c.rank-2.ensures) in
+    λ e. eqb-false c.rank.result c.rank-2.result (not-true (c.rank.result == c.rank-2.result) apart) (c.rank.ensures ∙ ap rank (sym here) ∙ e ∙ sym c.rank-2.ensures) in
     less_order xs i y c.requires.order within there d differ ∙ ap (λ (k : ℕ). get_or xs i d ∷ in_order (drop k xs)) (sym next)
 
 pub returns-clause-again : goal.returns-clause-again

@@ -14,7 +14,7 @@ returns c =
     let atoms = c.as_slice-atoms.result.now in
     let found = c.in_ok-rows.ensures in
     let at : (k : ℕ) → k < width → get_or rows k [] ≡ bodies_with rules (low + k) =
-        λ k within. ap (λ (xs : List (List ℕ)). get_or xs k []) c.as_slice-2.ensures.value ∙ found.rows k within in
+    λ k within. ap (λ (xs : List (List ℕ)). get_or xs k []) c.as_slice-2.ensures.value ∙ found.rows k within in
     let same = rows_support rules low width rows atoms at c.least-low.ensures c.span-width.ensures in
     on_ok_weaker c.add_by_rows.result
     (λ done. done ∙ ap (λ (more : List (List Lit)). c.args.clauses.now.items ++ more) (same ∙ (λ i. map (support_clause (c.as_slice.ensures i)) (c.as_slice-atoms.ensures i))))
