@@ -1,4 +1,4 @@
-use Rattle.std.proofs.Common.{◌≡◌, ◌≤◌, ◌∙◌, true, false, sym, subst, ℕ, List, length, arith}
+use Rattle.std.proofs.Common.{◌≡◌, ◌∙◌, true, sym, subst, ℕ, arith}
 use Rattle.std.proofs.lemmas.Bool.{false≢true}
 use Rattle.clause_store.specs.Held.{is_clause, clauses_in}
 use Rattle.search_tests.proofs.Holding.{held_below, empty_sound}
