@@ -48,13 +48,13 @@ more_or_same K L zero grow = inr (λ m within. absurd (omega (arith, within)))
 more_or_same K L (suc n) grow =
     ⊎_elim
     (λ (less : one_if_none (L n) < one_if_none (K n)). ⊎_elim
-      (λ (rest : lacking L n < lacking K n). inl (omega (arith, less, rest)))
-      (λ same. inl (let rest = lacking_same K L n same in omega (arith, less, rest)))
-      (more_or_same K L n grow))
+    (λ (rest : lacking L n < lacking K n). inl (omega (arith, less, rest)))
+    (λ same. inl (let rest = lacking_same K L n same in omega (arith, less, rest)))
+    (more_or_same K L n grow))
     (λ (here : L n ≡ K n). ⊎_elim
-      (λ (rest : lacking L n < lacking K n). inl (let even = ap one_if_none here in omega (arith, even, rest)))
-      (λ same. inr (λ m within. ⊎_elim (λ (low : m < n). same m low) (λ (high : n ≤ m). let e : n ≡ m = omega (arith, within, high) in subst (λ (k : ℕ). L k ≡ K k) e here) (cases_lt m n)))
-      (more_or_same K L n grow))
+    (λ (rest : lacking L n < lacking K n). inl (let even = ap one_if_none here in omega (arith, even, rest)))
+    (λ same. inr (λ m within. ⊎_elim (λ (low : m < n). same m low) (λ (high : n ≤ m). let e : n ≡ m = omega (arith, within, high) in subst (λ (k : ℕ). L k ≡ K k) e here) (cases_lt m n)))
+    (more_or_same K L n grow))
     (step K L n grow)
 
 module _ (statements : List Statement) (links : List (Option ℕ)) where
@@ -139,6 +139,7 @@ value_or_none statements symbols number = of (settled_rounds statements symbols)
 -- a program has one with its constants replaced
 pub some_replaced : (program : Program) → (replaced : Program) × IsReplaced program replaced
 some_replaced program =
-    let found = some_values program.statements program.symbols in
-    (record { statements = map (statement_replaced (replacement (links_of program.statements program.symbols) found.0)) program.statements; symbols = program.symbols },
-     record { known = found.0; values = found.1; statements = refl; symbols = refl })
+    let found = some_values program.statements program.symbols in (
+      record { statements = map (statement_replaced (replacement (links_of program.statements program.symbols) found.0)) program.statements; symbols = program.symbols },
+      record { known = found.0; values = found.1; statements = refl; symbols = refl },
+    )
