@@ -72,37 +72,68 @@ fn a_chain_through_three_levels(rt: HostRuntime) -> Result<(), Fail> {
     Ok(())
 }
 
-/// Of `:- a, b.` and `:- a, not b.`, with a 0, b 1, the bodies 2 and 3.
-fn hold_first(session: &mut Session) -> Result<(), Memory>
-    requires { session.old ≡ 7 }
-    ensures { session.new ≡ 7 }
+/// Of the module of `{a}. {b}. :- a, b. :- a, not b. :- not a, b. :- not a, not b.` at length 1, with a 0, b 1, the bodies 2 to 7 and the end 8:
+/// the bodies of the choices and of the first constraint.
+fn hold_choices(session: &mut Session) -> Result<(), Memory>
+    requires { session.old ≡ 9 }
+    ensures { session.new ≡ 9 }
 {
-    let _ = session.hold(&[Lit::of(2), Lit::of(0).negated(), Lit::of(1).negated()])?;
-    let _ = session.hold(&[Lit::of(2).negated()])?;
-    let _ = session.hold(&[Lit::of(3), Lit::of(0).negated(), Lit::of(1)])?;
-    let _ = session.hold(&[Lit::of(3).negated()])?;
+    let _ = session.hold(&[Lit::of(2)])?;
+    let _ = session.hold(&[Lit::of(3)])?;
+    let _ = session.hold(&[Lit::of(0), Lit::of(4).negated()])?;
+    let _ = session.hold(&[Lit::of(1), Lit::of(4).negated()])?;
+    let _ = session.hold(&[Lit::of(0).negated(), Lit::of(1).negated(), Lit::of(4)])?;
+    let _ = session.hold(&[Lit::of(4).negated()])?;
     Ok(())
 }
 
-/// Of `:- not a, b.` and `:- not a, not b.`, with the bodies 4 and 5.
+/// The body of the second constraint.
 fn hold_second(session: &mut Session) -> Result<(), Memory>
-    requires { session.old ≡ 7 }
-    ensures { session.new ≡ 7 }
+    requires { session.old ≡ 9 }
+    ensures { session.new ≡ 9 }
 {
-    let _ = session.hold(&[Lit::of(4), Lit::of(0), Lit::of(1).negated()])?;
-    let _ = session.hold(&[Lit::of(4).negated()])?;
-    let _ = session.hold(&[Lit::of(5), Lit::of(0), Lit::of(1)])?;
+    let _ = session.hold(&[Lit::of(0), Lit::of(5).negated()])?;
+    let _ = session.hold(&[Lit::of(1).negated(), Lit::of(5).negated()])?;
+    let _ = session.hold(&[Lit::of(0).negated(), Lit::of(1), Lit::of(5)])?;
     let _ = session.hold(&[Lit::of(5).negated()])?;
+    Ok(())
+}
+
+/// The body of the third constraint.
+fn hold_third(session: &mut Session) -> Result<(), Memory>
+    requires { session.old ≡ 9 }
+    ensures { session.new ≡ 9 }
+{
+    let _ = session.hold(&[Lit::of(0).negated(), Lit::of(6).negated()])?;
+    let _ = session.hold(&[Lit::of(1), Lit::of(6).negated()])?;
+    let _ = session.hold(&[Lit::of(0), Lit::of(1).negated(), Lit::of(6)])?;
+    let _ = session.hold(&[Lit::of(6).negated()])?;
+    Ok(())
+}
+
+/// The body of the fourth constraint, and the supports of the atoms.
+fn hold_fourth(session: &mut Session) -> Result<(), Memory>
+    requires { session.old ≡ 9 }
+    ensures { session.new ≡ 9 }
+{
+    let _ = session.hold(&[Lit::of(0).negated(), Lit::of(7).negated()])?;
+    let _ = session.hold(&[Lit::of(1).negated(), Lit::of(7).negated()])?;
+    let _ = session.hold(&[Lit::of(0), Lit::of(1), Lit::of(7)])?;
+    let _ = session.hold(&[Lit::of(7).negated()])?;
+    let _ = session.hold(&[Lit::of(0).negated(), Lit::of(2)])?;
+    let _ = session.hold(&[Lit::of(1).negated(), Lit::of(3)])?;
     Ok(())
 }
 
 #[test]
 fn four_constraints_teach_one_literal(rt: HostRuntime) -> Result<(), Fail> {
-    let mut session = Session::new(rt.alloc(), 7)?;
-    hold_first(&mut session)?;
+    let mut session = Session::new(rt.alloc(), 9)?;
+    hold_choices(&mut session)?;
     hold_second(&mut session)?;
+    hold_third(&mut session)?;
+    hold_fourth(&mut session)?;
     assert!(rt; session.propagate().is_none());
-    assert!(rt; go_on(&mut session, 6));
+    assert!(rt; go_on(&mut session, 8));
     assert!(rt; session.decide(Lit::of(0).negated()));
     assert!(rt; session.propagate().is_some());
     match session.learn(rt.alloc())? {
