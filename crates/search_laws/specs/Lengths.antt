@@ -1,0 +1,69 @@
+-- What the search knows of a length: the program of the states below it, its end, and the order of its variables.
+use Rattle.std.specs.Prelude.{◌≡◌, ℕ, ◌-◌, false, not, List, [], ◌∷◌, map, Some, None, IsTrue, ◌==◌, if◌then◌else◌}
+use Rattle.std.specs.List.{list_any, flat_map, range_with_len}
+use Rattle.tel_base.specs.Members.{In}
+use Rattle.clause_store.specs.Closure.{Clause}
+use Rattle.normal_program.specs.declared.rules.NRule.{NRule}
+use Rattle.normal_program.specs.declared.modules.BodyDef.{BodyDef}
+use Rattle.normal_program.specs.declared.modules.ModuleParts.{ModuleParts}
+use Rattle.normal_program.specs.declared.modules.StepModule.{StepModule}
+use Rattle.normal_program.specs.Grounds.{Layers, layers_of, all_rules, parts_of}
+use Rattle.normal_program.specs.StableSets.{Set, IsStable, lits_hold}
+use Rattle.normal_program.specs.ModuleClauses.{clauses_of}
+
+-- a length: the rules and the other parts of the modules of its states, the variable of its end, the variables of the atoms of its states in
+-- the order of traces, and the clauses of its last module
+pub record Length : Type 0 where
+  pub ground : Layers
+  pub ending : ℕ
+  pub visible : List ℕ
+  pub clauses : List Clause
+
+-- the length n of these modules, one for each state
+abbrev pub length_of : (ℕ → StepModule) → ℕ → Length
+length_of steps n = record {
+  ground = layers_of (flat_map (λ (t : ℕ). all_rules (steps t)) (range_with_len 0 n)) (map (λ (t : ℕ). parts_of (steps t)) (range_with_len 0 n));
+  ending = (steps (n - 1)).end;
+  visible = flat_map (λ (t : ℕ). (steps t).atoms) (range_with_len 0 n);
+  clauses = clauses_of (steps (n - 1));
+}
+
+-- ---- its stable sets
+
+-- the fact that the trace ends
+abbrev pub end_rule : ℕ → NRule
+end_rule ending = record { head = Some ending; choice = false; pos = []; neg = []; body = None }
+
+abbrev pub rules_of : Length → List NRule
+rules_of length = end_rule length.ending ∷ length.ground.rules
+
+abbrev pub pairs_of : Length → List (ℕ × ℕ)
+pairs_of length = flat_map (λ (parts : ModuleParts). parts.pairs) length.ground.modules
+
+abbrev pub bodies_of : Length → List BodyDef
+bodies_of length = flat_map (λ (parts : ModuleParts). parts.bodies) length.ground.modules
+
+-- S is stable for the program of the length: for the rules of its modules, with its end as a fact
+abbrev pub IsStableAt : Length → Set → Type 0
+IsStableAt length S = IsStable (rules_of length) (pairs_of length) S
+
+-- ---- with the values of bodies
+
+-- whether a variable stands for no body
+abbrev pub is_plain : Length → Set
+is_plain length v = not (list_any (λ (def : BodyDef). def.var == v) (bodies_of length))
+
+-- the values that a set gives: its own, and for the variable of each entry of `bodies` that of the literals of the entry
+pub record IsValued (length : Length) (S values : Set) : Type 0 where
+  pub same : (v : ℕ) → IsTrue (is_plain length v) → values v ≡ S v
+  pub bodies : (def : BodyDef) → In def (bodies_of length) → values def.var ≡ lits_hold S S def.lits
+
+-- such values, where each of the variables has one body
+abbrev pub with_bodies : List BodyDef → Set → Set
+with_bodies [] S v = S v
+with_bodies (def ∷ more) S v = if def.var == v then lits_hold S S def.lits else with_bodies more S v
+
+-- a stable set of the length with its values
+pub record Stands (length : Length) (S values : Set) : Type 0 where
+  pub stable : IsStableAt length S
+  pub valued : IsValued length S values

@@ -1,0 +1,6 @@
+pub mod Walks
+pub mod Lengths
+pub mod Origins
+pub mod Needed
+pub mod Runs
+pub mod Laws

@@ -1,0 +1,30 @@
+//! Laws of the definitions: functions that do nothing, whose contracts are proved facts.
+
+ghost use Rattle.search_laws.specs.Laws.{EndsAreApart, FoundIsOne, ValuesStand, FoundIsFinds, ModulesAndLoopsAreRight, LearntAreRight, BlocksAreRight, KeptAreRight, FoundMeetsAll, NextIsNext, FoundInOrder, ClosedFoundAll};
+
+/// A walk ends in one way alone: it is closed, or a further clause is needed, or it finds one stable
+/// set.
+pub fn walk_ends()
+    ensures apart { EndsAreApart }
+    ensures one { FoundIsOne }
+    ensures values { ValuesStand }
+    ensures finds { FoundIsFinds }
+{}
+
+/// Held clauses are right: which of them are true in which stable sets, by their kind and the length at
+/// which they came.
+pub fn kept_clauses()
+    ensures always { ModulesAndLoopsAreRight }
+    ensures learnt { LearntAreRight }
+    ensures blocks { BlocksAreRight }
+    ensures later { KeptAreRight }
+    ensures found { FoundMeetsAll }
+{}
+
+/// The search finds the stable sets of a length in their order, each once, and all of them where its
+/// walk is closed.
+pub fn search_order()
+    ensures next { NextIsNext }
+    ensures order { FoundInOrder }
+    ensures all { ClosedFoundAll }
+{}

@@ -1,0 +1,7 @@
+//! What the search for stable sets answers: the walk over the clauses that it holds, the origin of each
+//! clause, and the laws by which its sets are the stable sets, each once and in order.
+#![tactic(auto)]
+
+mod laws;
+
+pub use laws::{kept_clauses, search_order, walk_ends};
