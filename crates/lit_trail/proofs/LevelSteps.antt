@@ -13,16 +13,16 @@ pub levels_more : (entries : List Entry) (low high : ℕ) → low ≤ high → A
 levels_more [] low high l h = tt
 levels_more (entry ∷ older) low high l h = (let m = h.0 in omega (arith, l, m), h.1)
 
-not_lt : (a b : ℕ) → b ≤ a → nat_lt a b ≡ false
+pub not_lt : (a b : ℕ) → b ≤ a → nat_lt a b ≡ false
 not_lt a b l = false_from_ne_true (nat_lt a b) (λ t. let m = ltb-true a b t in absurd (omega (arith, l, m)))
 
-kept : (m : ℕ) (entry : Entry) (older : List Entry) → entry.level ≤ m → back m (entry ∷ older) ≡ entry ∷ older
+pub kept : (m : ℕ) (entry : Entry) (older : List Entry) → entry.level ≤ m → back m (entry ∷ older) ≡ entry ∷ older
 kept m entry older l = cond-false (nat_lt m entry.level) (back m older) (entry ∷ older) (not_lt m entry.level l)
 
-dropped : (m : ℕ) (entry : Entry) (older : List Entry) → m < entry.level → back m (entry ∷ older) ≡ back m older
+pub dropped : (m : ℕ) (entry : Entry) (older : List Entry) → m < entry.level → back m (entry ∷ older) ≡ back m older
 dropped m entry older l = cond-true (nat_lt m entry.level) (back m older) (entry ∷ older) (lt-ltb m entry.level l)
 
-order_of : (m : ℕ) (entry : Entry) → (m < entry.level) ⊎ (entry.level ≤ m)
+pub order_of : (m : ℕ) (entry : Entry) → (m < entry.level) ⊎ (entry.level ≤ m)
 order_of m entry = ⊎_elim (λ (t : nat_lt m entry.level ≡ true). inl (ltb-true m entry.level t)) (λ (f : nat_lt m entry.level ≡ false). inr (⊎_elim (λ (e : m ≡ entry.level). omega (arith, e)) (λ ne. ⊎_elim (λ (l : m < entry.level). absurd (false≢true (sym f ∙ lt-ltb m entry.level l))) (λ (l : entry.level < m). omega (arith, l)) ne) (cases_order m entry.level))) (cases_Bool (nat_lt m entry.level))
 
 pub back_all : (entries : List Entry) (top m : ℕ) → AreLevels top entries → top ≤ m → back m entries ≡ entries
@@ -50,12 +50,12 @@ back_short (entry ∷ older) m =
     ⊎_elim (λ (over : m < entry.level). let n = ap length (dropped m entry older over) in let rest = back_short older m in omega (arith, n, rest)) (λ (under : entry.level ≤ m). let n = ap length (kept m entry older under) in omega (arith, n)) (order_of m entry)
 
 -- a decision of another level is passed by
-passed : (entry : Entry) (older : List Entry) (k : ℕ) → (entry.level ≡ k → ⊥) → decision_in (entry ∷ older) k ≡ decision_in older k
+pub passed : (entry : Entry) (older : List Entry) (k : ℕ) → (entry.level ≡ k → ⊥) → decision_in (entry ∷ older) k ≡ decision_in older k
 passed entry older k ne =
     cond-false ((entry.level == k) && is_decided entry.reason) (Some entry.lit) (decision_in older k) (ap (λ (b : Bool). b && is_decided entry.reason) (ne_eqb entry.level k ne))
 
 -- and so is a literal that has a reason
-given : (entry : Entry) (older : List Entry) (k : ℕ) → is_decided entry.reason ≡ false → decision_in (entry ∷ older) k ≡ decision_in older k
+pub given : (entry : Entry) (older : List Entry) (k : ℕ) → is_decided entry.reason ≡ false → decision_in (entry ∷ older) k ≡ decision_in older k
 given entry older k f =
     cond-false ((entry.level == k) && is_decided entry.reason) (Some entry.lit) (decision_in older k) (ap (λ (b : Bool). (entry.level == k) && b) f ∙ and_right (entry.level == k) false refl)
 

@@ -1,0 +1,2 @@
+pub mod DecisionSteps
+mod Examples
