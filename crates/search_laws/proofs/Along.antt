@@ -65,7 +65,7 @@ module _ (lengths : ℕ → Length) (n : ℕ) (S values : Set) (laid : AreCompos
   ending_true = stands.valued.same (lengths n).ending (laid.plain_end n laid.some (omega arith)) ∙ own_end (lengths n) S stands.stable
 
   pub seen_same : (v : ℕ) → In v (lengths n).visible → values v ≡ S v
-  seen_same v i = stands.valued.same v (laid.plain_visible v i)
+  seen_same v i = stands.valued.same v (laid.plain_heads n v laid.some (omega arith) (laid.visible_heads v i))
 
   -- a clause that is false where all before are true is a blocking clause of this length
   pub false_blocks : (before : List Kept) (one : Kept) → all_true values (lits_of before) ≡ true → 0 < one.length → one.length ≤ n → Origin lengths before one → clause_true values one.lits ≡ false → (one.length ≡ n) × (one.kind ≡ kinds.Block)

@@ -29,7 +29,7 @@ walk_not_stuck clauses start (v ∷ seen) decisions others a b =
 
 set_one : (length : Length) (clauses : List Clause) (decisions : List Lit) (S R : Set) → IsWalkSet length clauses decisions S → IsWalkSet length clauses decisions R → S ≡ R
 set_one length clauses decisions S R a b i v =
-    same_bits (S v) (R v) (λ t. b.whole v (a.plain v t) (a.derived v t)) (λ t. a.whole v (b.plain v t) (b.derived v t)) i
+    same_bits (S v) (R v) (λ t. b.whole v (a.own v t) (a.derived v t)) (λ t. a.whole v (b.own v t) (b.derived v t)) i
 
 total_one : (length : Length) (clauses : List Clause) (decisions others : List Lit) → IsTotalWalk clauses length.ending length.visible decisions → IsTotalWalk clauses length.ending length.visible others → decisions ≡ others
 total_one length clauses decisions others a b = walk_one clauses (lit_of length.ending ∷ []) length.visible decisions others a.goes b.goes

@@ -6,3 +6,5 @@ pub mod Loops
 pub mod Along
 pub mod Ordered
 pub mod Listing
+pub mod Climbing
+pub mod TrailLevels

@@ -1,15 +1,17 @@
 -- The sets found, in order.
 use Rattle.std.proofs.Common.{◌≡◌, ℕ, true, false, List, [], ◌∷◌, ◌++◌, refl, sym, ap, subst, ◌∙◌, ◌⊎◌, inl, inr, ⊎_elim, arith}
-use Rattle.std.proofs.lemmas.Bool.{and_from, cases_Bool}
+use Rattle.std.specs.Prelude.{◌==◌}
+use Rattle.std.proofs.lemmas.Bool.{or_left, and_from, cases_Bool}
 use Rattle.tel_base.specs.declared.literals.Lit.{Lit}
 use Rattle.tel_base.specs.Literals.{lit_of}
 use Rattle.tel_base.proofs.Members.{In, In-append_left, In-append_right, In-append_cases}
+use Rattle.normal_program.specs.Grounds.{is_head}
 use Rattle.normal_program.specs.StableSets.{Set}
 use Rattle.clause_store.specs.declared.store.ClauseKind.{ClauseKind}
 use Rattle.clause_store.specs.Closure.{Clause}
 use Rattle.completion.specs.Completions.{clause_true}
 use Rattle.search_laws.specs.Walks.{IsClosedWalk, Before, Agree, UpTo}
-use Rattle.search_laws.specs.Lengths.{Length, bodies_of, is_plain, IsStableAt, Stands, with_bodies}
+use Rattle.search_laws.specs.Lengths.{Length, bodies_of, IsStableAt, Stands, with_bodies}
 use Rattle.search_laws.specs.Origins.{Kept, lits_of, Finds, IsBlock, OriginBy, Grown, added}
 use Rattle.search_laws.specs.Needed.{IsFound}
 use Rattle.search_laws.specs.Runs.{Run, begins, adds, blocks, InOrder}
@@ -112,9 +114,9 @@ module _ (lengths : ℕ → Length) (n : ℕ) (laid : AreComposed lengths n) whe
             ⊎_elim (λ l. rest.1 s l) (λ r. ⊎_elim (λ (e : set ≡ s). subst (λ (x : Set). IsStableAt (lengths n) x) e block.found.stable) (λ m. absurd m) r) (In-append_cases s past (set ∷ []) (subst (λ (ss : List Set). In s ss) more i)),
       )
 
-pub found_finds : (length : Length) (clauses : List Clause) (decisions : List Lit) (S : Set) → ((var : ℕ) → In var length.visible → is_plain length var ≡ true) → IsFound length clauses decisions S → Finds length clauses decisions S
-found_finds length clauses decisions S plain found = record {
+pub found_finds : (length : Length) (clauses : List Clause) (decisions : List Lit) (S : Set) → ((var : ℕ) → In var length.visible → is_head length.ground.modules var ≡ true) → IsFound length clauses decisions S → Finds length clauses decisions S
+found_finds length clauses decisions S heads found = record {
   total = found.total;
-  set = record { derived = λ v i t. found.set.derived v t; whole = λ v i up. found.set.whole v (plain v i) up };
+  set = record { derived = λ v i t. found.set.derived v t; whole = λ v i up. found.set.whole v (or_left (is_head length.ground.modules v) (v == length.ending) (heads v i)) up };
   stable = found.stable;
 }

@@ -50,7 +50,7 @@ pub record AreComposed (lengths : ℕ → Length) (n : ℕ) : Type 0 where
   pub plain_heads : (k var : ℕ) → 0 < k → k ≤ n → IsTrue (is_head (lengths k).ground.modules var) → IsTrue (is_plain (lengths n) var)
   pub plain_pos : (rule : NRule) (var : ℕ) → In rule (lengths n).ground.rules → In var rule.pos → IsTrue (is_plain (lengths n) var)
   pub plain_neg : (rule : NRule) (var : ℕ) → In rule (lengths n).ground.rules → In var rule.neg → IsTrue (is_plain (lengths n) var)
-  pub plain_visible : (var : ℕ) → In var (lengths n).visible → IsTrue (is_plain (lengths n) var)
+  pub visible_heads : (var : ℕ) → In var (lengths n).visible → IsTrue (is_head (lengths n).ground.modules var)
   pub plain_end : (k : ℕ) → 0 < k → k ≤ n → IsTrue (is_plain (lengths n) (lengths k).ending)
   pub ends_no_heads : (j k : ℕ) → 0 < j → j ≤ n → 0 < k → k ≤ n → IsFalse (is_head (lengths j).ground.modules (lengths k).ending)
   pub ends_differ : (k : ℕ) → 0 < k → k < n → (lengths k).ending ≡ (lengths n).ending → ⊥
@@ -115,4 +115,4 @@ ClosedFoundAll =
 -- the set of the true variables of the closure of a walk is one that it finds
 abbrev pub FoundIsFinds : Type 0
 FoundIsFinds =
-    (length : Length) (clauses : List Clause) (decisions : List Lit) (S : Set) → ((var : ℕ) → In var length.visible → IsTrue (is_plain length var)) → IsFound length clauses decisions S → Finds length clauses decisions S
+    (length : Length) (clauses : List Clause) (decisions : List Lit) (S : Set) → ((var : ℕ) → In var length.visible → IsTrue (is_head length.ground.modules var)) → IsFound length clauses decisions S → Finds length clauses decisions S

@@ -1,5 +1,5 @@
 -- What the search knows of a length: the program of the states below it, its end, and the order of its variables.
-use Rattle.std.specs.Prelude.{◌≡◌, ℕ, ◌-◌, false, not, List, [], ◌∷◌, map, Some, None, IsTrue, ◌==◌, if◌then◌else◌}
+use Rattle.std.specs.Prelude.{◌≡◌, ℕ, ◌-◌, false, not, ◌||◌, List, [], ◌∷◌, map, Some, None, IsTrue, ◌==◌, if◌then◌else◌}
 use Rattle.std.specs.List.{list_any, flat_map, range_with_len}
 use Rattle.tel_base.specs.Members.{In}
 use Rattle.clause_store.specs.Closure.{Clause}
@@ -7,7 +7,7 @@ use Rattle.normal_program.specs.declared.rules.NRule.{NRule}
 use Rattle.normal_program.specs.declared.modules.BodyDef.{BodyDef}
 use Rattle.normal_program.specs.declared.modules.ModuleParts.{ModuleParts}
 use Rattle.normal_program.specs.declared.modules.StepModule.{StepModule}
-use Rattle.normal_program.specs.Grounds.{Layers, layers_of, all_rules, parts_of}
+use Rattle.normal_program.specs.Grounds.{is_head, Layers, layers_of, all_rules, parts_of}
 use Rattle.normal_program.specs.StableSets.{Set, IsStable, lits_hold}
 use Rattle.normal_program.specs.ModuleClauses.{clauses_of}
 
@@ -46,6 +46,10 @@ bodies_of length = flat_map (λ (parts : ModuleParts). parts.bodies) length.grou
 -- S is stable for the program of the length: for the rules of its modules, with its end as a fact
 abbrev pub IsStableAt : Length → Set → Type 0
 IsStableAt length S = IsStable (rules_of length) (pairs_of length) S
+
+-- whether it may hold a variable: a head of a module, or the end
+abbrev pub in_program : Length → Set
+in_program length v = is_head length.ground.modules v || (v == length.ending)
 
 -- ---- with the values of bodies
 

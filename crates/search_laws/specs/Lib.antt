@@ -4,3 +4,4 @@ pub mod Origins
 pub mod Needed
 pub mod Runs
 pub mod Laws
+pub mod Levels

@@ -5,13 +5,13 @@ use Rattle.tel_base.specs.Literals.{lit_of}
 use Rattle.clause_store.specs.Closure.{Clause, Up}
 use Rattle.normal_program.specs.StableSets.{Set}
 use Rattle.search_laws.specs.Walks.{IsTotalWalk, IsStuckWalk}
-use Rattle.search_laws.specs.Lengths.{Length, IsStableAt, is_plain}
+use Rattle.search_laws.specs.Lengths.{Length, IsStableAt, in_program}
 
--- S is the set of the variables that are true in the closure of the decisions and stand for no body
+-- S is the set of the heads and the end that are true in the closure of the decisions
 pub record IsWalkSet (length : Length) (clauses : List Clause) (decisions : List Lit) (S : Set) : Type 0 where
-  pub plain : (v : ℕ) → IsTrue (S v) → IsTrue (is_plain length v)
+  pub own : (v : ℕ) → IsTrue (S v) → IsTrue (in_program length v)
   pub derived : (v : ℕ) → IsTrue (S v) → Up clauses decisions (lit_of v)
-  pub whole : (v : ℕ) → IsTrue (is_plain length v) → Up clauses decisions (lit_of v) → IsTrue (S v)
+  pub whole : (v : ℕ) → IsTrue (in_program length v) → Up clauses decisions (lit_of v) → IsTrue (S v)
 
 -- the walk is total and stable, with these decisions and this set
 pub record IsFound (length : Length) (clauses : List Clause) (decisions : List Lit) (S : Set) : Type 0 where

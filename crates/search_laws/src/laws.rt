@@ -1,5 +1,6 @@
 //! Laws of the definitions: functions that do nothing, whose contracts are proved facts.
 
+ghost use Rattle.search_laws.specs.Levels.{LevelsAreTotal, LevelsAreStuck};
 ghost use Rattle.search_laws.specs.Laws.{EndsAreApart, FoundIsOne, ValuesStand, FoundIsFinds, ModulesAndLoopsAreRight, LearntAreRight, BlocksAreRight, KeptAreRight, FoundMeetsAll, NextIsNext, FoundInOrder, ClosedFoundAll};
 
 /// A walk ends in one way alone: it is closed, or a further clause is needed, or it finds one stable
@@ -27,4 +28,11 @@ pub fn search_order()
     ensures next { NextIsNext }
     ensures order { FoundInOrder }
     ensures all { ClosedFoundAll }
+{}
+
+/// The levels of a trail on which the search has decided the end, and then always the first visible
+/// variable without a value, are the walk.
+pub fn walk_levels()
+    ensures total { LevelsAreTotal }
+    ensures stuck { LevelsAreStuck }
 {}
