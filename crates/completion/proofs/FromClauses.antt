@@ -21,7 +21,8 @@ use Rattle.completion.specs.Completions.{lit_true, clause_true, AreSettled, IsHe
 use Rattle.completion.specs.Laws.{SatisfiesClauses}
 use Rattle.completion.proofs.ListedClauses.{listed_means}
 use Rattle.completion.proofs.ShapeValues.{shape_value, then_one, then_some, then_x, not_both, same_bits}
-use Rattle.completion.proofs.RuleLists.{lits_body, some_is, own_none, rule_kind, node_head, not_none, source, constraint}
+use Rattle.completion.proofs.Sets.{lits-body}
+use Rattle.completion.proofs.RuleLists.{some_is, own_none, rule_kind, node_head, not_none, source, constraint}
 use Rattle.completion.proofs.StatedClauses.{of_close, of_body, of_later, of_support, of_node, of_pair, of_open, from_bodies_with}
 
 -- a clause of one negation
@@ -114,7 +115,7 @@ module _ (steps : ℕ → StepModule) (n : ℕ) (S : Set) (settled : AreSettled 
       (s.normal normal))
       (λ (k : (node : NodeRule) × In node (steps t).nodes × ((lits : List Lit) × In lits (shape_bodies node.shape) × (node_rule node.var lits ≡ rule))).
       let node = k.0 in
-      let holds : lits_hold S S k.2.0 ≡ true = sym (lits_body S k.2.0) ∙ (ap (λ (r : NRule). body_holds S S r) k.2.2 ∙ body) in
+      let holds : lits_hold S S k.2.0 ≡ true = sym (lits-body S S k.2.0) ∙ (ap (λ (r : NRule). body_holds S S r) k.2.2 ∙ body) in
       subst (λ (v : ℕ). S v ≡ true) (node_head node.var head k.2.0 rule k.2.2 is) (node_value t l node k.1 ∙ any_from (lits_hold S S) (shape_bodies node.shape) k.2.0 k.2.1 holds))
       (rule_kind (steps t) rule i)
 
@@ -147,7 +148,7 @@ module _ (steps : ℕ → StepModule) (n : ℕ) (S : Set) (settled : AreSettled 
         rule = rule;
         inside = In-append_right rule (steps t).rules (flat_map rules_of_node (steps t).nodes) (In-flat_map rules_of_node node rule (steps t).nodes k.1 (In-map (node_rule node.var) w.0 (shape_bodies node.shape) w.1));
         head = ap Some k.2;
-        body = lits_body S w.0 ∙ w.2;
+        body = lits-body S S w.0 ∙ w.2;
       })
       h
 

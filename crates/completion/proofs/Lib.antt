@@ -3,6 +3,8 @@ pub mod Fronts
 pub mod Orders
 pub mod SupportRows
 pub mod Signs
+pub mod Sets
+pub mod Ranges
 pub mod ListedClauses
 pub mod ShapesHold
 pub mod ShapeValues
@@ -11,3 +13,4 @@ pub mod StatedClauses
 pub mod FromClauses
 pub mod ToClauses
 pub mod SettledRows
+pub mod StableSets

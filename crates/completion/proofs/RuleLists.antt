@@ -1,7 +1,7 @@
 -- The rules of a settled module: those of its bodies, and those with bodies of the state before.
-use Rattle.std.proofs.Common.{◌≡◌, ℕ, suc, ◌-◌, ◌<◌, Bool, true, false, cond, not, ◌&&◌, List, [], ◌∷◌, ◌++◌, map, length, drop, refl, sym, ap, subst, ◌∙◌, ◌⊎◌, inl, inr, ⊎_elim, arith}
+use Rattle.std.proofs.Common.{◌≡◌, ℕ, suc, ◌-◌, ◌<◌, Bool, true, false, cond, ◌&&◌, List, [], ◌∷◌, ◌++◌, length, drop, refl, sym, ap, subst, ◌∙◌, ◌⊎◌, inl, inr, ⊎_elim, arith}
 use Rattle.std.specs.Prelude.{Option, Some, None}
-use Rattle.std.specs.List.{list_all, filter, flat_map}
+use Rattle.std.specs.List.{filter, flat_map}
 use Rattle.std.proofs.lemmas.Bool.{false≢true}
 use Rattle.tel_base.specs.declared.literals.Lit.{Lit}
 use Rattle.tel_base.specs.Literals.{lit_of}
@@ -13,35 +13,15 @@ use Rattle.normal_program.specs.declared.modules.BodyHead.{BodyHead}
 use Rattle.normal_program.specs.declared.modules.BodyHead.TheVariants.{Normal, Choice, Nothing, NextNormal, NextChoice}
 use Rattle.normal_program.specs.declared.modules.BodyDef.{BodyDef}
 use Rattle.normal_program.specs.declared.modules.StepModule.{StepModule}
-use Rattle.normal_program.specs.Rules.{rule_of, positives, negatives}
+use Rattle.normal_program.specs.Rules.{rule_of}
 use Rattle.normal_program.specs.Shapes.{shape_bodies, node_rule, rules_of_node}
 use Rattle.normal_program.specs.Grounds.{all_rules}
 use Rattle.normal_program.specs.StableSets.{Set, lit_holds, lits_hold, body_holds}
 use Rattle.normal_program.specs.ModuleClauses.{gives_rule, later_rules}
 use Rattle.completion.specs.Completions.{rules_by, own_rules, IsLater, IsSettled}
+use Rattle.completion.proofs.Sets.{first_one, lits-body}
 
 -- ---- bodies
-
-first_one : (x a b : Bool) → ((x && a) && b) ≡ (x && (a && b))
-first_one true a b = refl
-first_one false a b = refl
-
-second_one : (x a b : Bool) → (a && (x && b)) ≡ (x && (a && b))
-second_one true a b = refl
-second_one false true b = refl
-second_one false false b = refl
-
--- the literals of a rule, and the two lists that it keeps
-pub lits_body : (S : Set) (lits : List Lit) → (list_all S (positives lits) && list_all (λ v. not (S v)) (negatives lits)) ≡ lits_hold S S lits
-lits_body S [] = refl
-lits_body S (lit ∷ more) =
-    let rest = lits_body S more in
-    let all = list_all S (positives more) in
-    let none = list_all (λ v. not (S v)) (negatives more) in
-    (elim lit.positive as (λ (b : Bool). (list_all S (map (λ (l : Lit). l.var) (cond b (lit ∷ filter (λ (l : Lit). l.positive) more) (filter (λ (l : Lit). l.positive) more))) && list_all (λ v. not (S v)) (map (λ (l : Lit). l.var) (cond (not b) (lit ∷ filter (λ (l : Lit). not l.positive) more) (filter (λ (l : Lit). not l.positive) more)))) ≡ (cond b (S lit.var) (not (S lit.var)) && (all && none))) [
-      | true ↦ first_one (S lit.var) all none
-      | false ↦ second_one (not (S lit.var)) all none
-    ]) ∙ (λ i. lit_holds S S lit && rest i)
 
 and_last : (a b : Bool) → (a && true) ≡ a
 and_last true b = refl
@@ -79,7 +59,7 @@ own_head ending var lits (Normal a) rule head i is =
     ⊎_elim
     (λ (e : rule_of (Some a) false lits (Some var) ≡ rule). record {
       body = ap (λ (r : NRule). r.body) (sym e);
-      holds = λ S. ap (λ (r : NRule). body_holds S S r) (sym e) ∙ lits_body S lits;
+      holds = λ S. ap (λ (r : NRule). body_holds S S r) (sym e) ∙ lits-body S S lits;
       normal = λ c. ap Normal (some_is a head (ap (λ (r : NRule). r.head) e ∙ is));
     })
     (λ m. absurd m) i
@@ -87,7 +67,7 @@ own_head ending var lits (Choice a) rule head i is =
     ⊎_elim
     (λ (e : rule_of (Some a) true lits (Some var) ≡ rule). record {
       body = ap (λ (r : NRule). r.body) (sym e);
-      holds = λ S. ap (λ (r : NRule). body_holds S S r) (sym e) ∙ lits_body S lits;
+      holds = λ S. ap (λ (r : NRule). body_holds S S r) (sym e) ∙ lits-body S S lits;
       normal = λ c. absurd (false≢true (sym c ∙ ap (λ (r : NRule). r.choice) (sym e)));
     })
     (λ m. absurd m) i
@@ -104,10 +84,10 @@ own_none ending var lits (Normal a) rule i is =
 own_none ending var lits (Choice a) rule i is =
     ⊎_elim (λ (e : rule_of (Some a) true lits (Some var) ≡ rule). absurd (not_none a (ap (λ (r : NRule). r.head) e ∙ is))) (λ m. absurd m) i
 own_none ending var lits Nothing rule i is =
-    ⊎_elim (λ (e : rule_of None false lits (Some var) ≡ rule). inl (refl, (λ S. ap (λ (r : NRule). body_holds S S r) (sym e) ∙ lits_body S lits))) (λ m. absurd m) i
+    ⊎_elim (λ (e : rule_of None false lits (Some var) ≡ rule). inl (refl, (λ S. ap (λ (r : NRule). body_holds S S r) (sym e) ∙ lits-body S S lits))) (λ m. absurd m) i
 own_none ending var lits NextNormal rule i is =
     ⊎_elim
-    (λ (e : rule_of None false (lits ++ lit_of ending ∷ []) (Some var) ≡ rule). inr (refl, (λ S. ap (λ (r : NRule). body_holds S S r) (sym e) ∙ (lits_body S (lits ++ lit_of ending ∷ []) ∙ more_lits S lits ending))))
+    (λ (e : rule_of None false (lits ++ lit_of ending ∷ []) (Some var) ≡ rule). inr (refl, (λ S. ap (λ (r : NRule). body_holds S S r) (sym e) ∙ (lits-body S S (lits ++ lit_of ending ∷ []) ∙ more_lits S lits ending))))
     (λ m. absurd m) i
 own_none ending var lits NextChoice rule i is = absurd i
 
@@ -163,7 +143,7 @@ later_source steps n t rule head l k i =
       def = k.def;
       inside = k.before;
       body = ap (λ (r : NRule). r.body) k.is;
-      holds = λ S. ap (λ (r : NRule). body_holds S S r) k.is ∙ lits_body S k.def.lits;
+      holds = λ S. ap (λ (r : NRule). body_holds S S r) k.is ∙ lits-body S S k.def.lits;
       normal = λ c. inr i;
     }
 

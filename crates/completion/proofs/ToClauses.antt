@@ -24,7 +24,8 @@ use Rattle.completion.proofs.Signs.{true_negate}
 use Rattle.completion.proofs.ListedClauses.{means_listed}
 use Rattle.completion.proofs.ShapesHold.{shape_true}
 use Rattle.completion.proofs.ShapeValues.{same_bits}
-use Rattle.completion.proofs.RuleLists.{lits_body, more_lits, some_is, rule_kind, node_head, later_are, source}
+use Rattle.completion.proofs.Sets.{lits-body}
+use Rattle.completion.proofs.RuleLists.{more_lits, some_is, rule_kind, node_head, later_are, source}
 use Rattle.completion.proofs.StatedClauses.{stated_all, in_bodies}
 
 -- a clause with the negation of v, that is true where v is
@@ -55,7 +56,7 @@ module _ (steps : ℕ → StepModule) (n : ℕ) (S : Set) (settled : AreSettled 
       let c : List Lit = lit_of a ∷ no_lit def.var ∷ [] in
       ⊎_elim
       (λ (e : c ≡ clause). subst (λ (d : List Lit). clause_true S d ≡ true) e (with_not S def.var c (inr (inl refl)) (λ b.
-      any_from (lit_true S) c (lit_of a) (inl refl) (whole.given t l rule a (own_by t l def m (Normal a) is rule (inl refl)) refl refl (lits_body S def.lits ∙ (sym (whole.bodies t l def m) ∙ b))))))
+      any_from (lit_true S) c (lit_of a) (inl refl) (whole.given t l rule a (own_by t l def m (Normal a) is rule (inl refl)) refl refl (lits-body S S def.lits ∙ (sym (whole.bodies t l def m) ∙ b))))))
       (λ k. absurd k) i
   use_true t l def m (Choice a) is clause i = absurd i
   use_true t l def m Nothing is clause i =
@@ -63,7 +64,7 @@ module _ (steps : ℕ → StepModule) (n : ℕ) (S : Set) (settled : AreSettled 
       let c : List Lit = no_lit def.var ∷ [] in
       ⊎_elim
       (λ (e : c ≡ clause). subst (λ (d : List Lit). clause_true S d ≡ true) e (with_not S def.var c (inl refl) (λ b.
-      absurd (false≢true (sym (whole.met t l rule (own_by t l def m Nothing is rule (inl refl)) refl) ∙ (lits_body S def.lits ∙ (sym (whole.bodies t l def m) ∙ b)))))))
+      absurd (false≢true (sym (whole.met t l rule (own_by t l def m Nothing is rule (inl refl)) refl) ∙ (lits-body S S def.lits ∙ (sym (whole.bodies t l def m) ∙ b)))))))
       (λ k. absurd k) i
   use_true t l def m NextNormal is clause i =
       let e = (steps t).end in
@@ -72,7 +73,7 @@ module _ (steps : ℕ → StepModule) (n : ℕ) (S : Set) (settled : AreSettled 
       let c : List Lit = no_lit def.var ∷ no_lit e ∷ [] in
       ⊎_elim
       (λ (same : c ≡ clause). subst (λ (d : List Lit). clause_true S d ≡ true) same (with_not S def.var c (inl refl) (λ b. with_not S e c (inr (inl refl)) (λ h.
-      absurd (false≢true (sym (whole.met t l rule (own_by t l def m NextNormal is rule (inl refl)) refl) ∙ (lits_body S lits ∙ (more_lits S def.lits e ∙ and_from (lits_hold S S def.lits) (S e) (sym (whole.bodies t l def m) ∙ b) h))))))))
+      absurd (false≢true (sym (whole.met t l rule (own_by t l def m NextNormal is rule (inl refl)) refl) ∙ (lits-body S S lits ∙ (more_lits S def.lits e ∙ and_from (lits_hold S S def.lits) (S e) (sym (whole.bodies t l def m) ∙ b) h))))))))
       (λ k. absurd k) i
   use_true t l def m NextChoice is clause i = absurd i
 
@@ -110,7 +111,7 @@ module _ (steps : ℕ → StepModule) (n : ℕ) (S : Set) (settled : AreSettled 
       let c : List Lit = lit_of a ∷ no_lit b ∷ [] in
       subst (λ (d : List Lit). clause_true S d ≡ true) p.5 (with_not S b c (inr (inl refl)) (λ h.
       let holds : lits_hold S S k.def.lits ≡ true = sym (whole.bodies (t - 1) before k.def k.before) ∙ (sym (ap S one) ∙ h) in
-      let body : body_holds S S rule ≡ true = ap (λ (r : NRule). body_holds S S r) k.is ∙ (lits_body S k.def.lits ∙ holds) in
+      let body : body_holds S S rule ≡ true = ap (λ (r : NRule). body_holds S S r) k.is ∙ (lits-body S S k.def.lits ∙ holds) in
       any_from (lit_true S) c (lit_of a) (inl refl) (whole.given t l rule a (In-append_left rule (steps t).rules (flat_map rules_of_node (steps t).nodes) inside) p.2 p.3 body)))
 
   support_true : (t : ℕ) → t < n → (atom : ℕ) → In atom (steps t).atoms → clause_true S (support_clause (steps t).rules atom) ≡ true
@@ -141,14 +142,14 @@ module _ (steps : ℕ → StepModule) (n : ℕ) (S : Set) (settled : AreSettled 
       absurd (settled.apart w.state t w.within l node.var node ((settled.each w.state w.within).heads w.rule node.var i w.head) m refl))
       (λ (k : (other : NodeRule) × In other (steps w.state).nodes × ((lits : List Lit) × In lits (shape_bodies other.shape) × (node_rule other.var lits ≡ w.rule))).
       let same : k.0 ≡ node = settled.nodes w.state t w.within l k.0 node k.1 m (node_head k.0.var node.var k.2.0 w.rule k.2.2 w.head) in
-      let holds : lits_hold S S k.2.0 ≡ true = sym (lits_body S k.2.0) ∙ (ap (λ (r : NRule). body_holds S S r) k.2.2 ∙ w.body) in
+      let holds : lits_hold S S k.2.0 ≡ true = sym (lits-body S S k.2.0) ∙ (ap (λ (r : NRule). body_holds S S r) k.2.2 ∙ w.body) in
       subst (λ (x : NodeRule). shape_holds S S x.shape ≡ true) same (any_from (lits_hold S S) (shape_bodies k.0.shape) k.2.0 k.2.1 holds))
       (rule_kind (steps w.state) w.rule w.inside))
       (λ h.
       let w = any_found (lits_hold S S) (shape_bodies node.shape) h in
       let rule = node_rule node.var w.0 in
       let inside : In rule (all_rules (steps t)) = In-append_right rule (steps t).rules (flat_map rules_of_node (steps t).nodes) (In-flat_map rules_of_node node rule (steps t).nodes m (In-map (node_rule node.var) w.0 (shape_bodies node.shape) w.1)) in
-      whole.given t l rule node.var inside refl refl (lits_body S w.0 ∙ w.2))
+      whole.given t l rule node.var inside refl refl (lits-body S S w.0 ∙ w.2))
 
   pair_true : (t : ℕ) → t < n → (pair : ℕ × ℕ) → In pair (steps t).pairs → clause_true S (pair_clause pair) ≡ true
   pair_true t l pair m =

@@ -1,2 +1,3 @@
 pub mod Completions
+pub mod Lengths
 pub mod Laws

@@ -9,5 +9,5 @@ mod ordering;
 mod shapes;
 mod supports;
 
-pub use laws::completion;
+pub use laws::{completion, stable_sets};
 pub use modules::clauses;

@@ -14,7 +14,7 @@ use Rattle.tel_semantics.specs.NodeFormula.{node_formula}
 use Rattle.tel_semantics.specs.Satisfaction.{sat}
 use Rattle.tel_semantics.specs.Theory.{body_formula, head_formula}
 use Rattle.tel_semantics.specs.Laws.{MeetsAll}
-use Rattle.tel_base.proofs.Members.{In, In-list_all, In-from_Contains, In-map, In-flat_map}
+use Rattle.tel_base.proofs.Members.{In, In-list_all, In-from_Contains, In-map, In-flat_map, any_from}
 use Rattle.tel_semantics.proofs.InRange.{pair_below}
 use Rattle.tel_semantics.proofs.Expansions.{same_truth}
 use Rattle.tel_base.specs.declared.literals.Lit.{Lit}
@@ -31,11 +31,12 @@ use Rattle.stable_models.proofs.ProgramRules.{program_rules, program_pairs}
 use Rattle.step_module.specs.Modules.{pairs_at}
 use Rattle.stable_models.proofs.Numbering.{full-visible, full-part, full-end}
 use Rattle.stable_models.proofs.Parts.{Has, supported_parts, within_n}
-use Rattle.stable_models.proofs.Sets.{lits-body, stable_supported}
-use Rattle.stable_models.proofs.RuleCases.{OfNode, Fact, Now, OfPart, NowIs, NextIs, now_is, next_is, rule_cases, some_same, in_now, in_if, range_from, Next as Later}
+use Rattle.completion.proofs.Sets.{lits-body, stable_supported}
+use Rattle.stable_models.proofs.RuleCases.{OfNode, Fact, Now, OfPart, NowIs, NextIs, now_is, next_is, rule_cases, some_same, in_now, in_if, Next as Later}
+use Rattle.completion.proofs.Ranges.{range_from}
 use Rattle.stable_models.proofs.Bodies.{HasParts, instance_from}
 use Rattle.stable_models.proofs.Guarded.{every_free}
-use Rattle.stable_models.proofs.ModelSets.{right_instance, model_closed, nodes_closed, has_end, atom_there, there_atom, rule_now, rule_next, none_some, any_from}
+use Rattle.stable_models.proofs.ModelSets.{right_instance, model_closed, nodes_closed, has_end, atom_there, there_atom, rule_now, rule_next, none_some}
 use Rattle.stable_models.proofs.Stables.{has_full, last_is, arrow_holds}
 
 -- ---- the variables that rules derive

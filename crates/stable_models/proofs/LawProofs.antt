@@ -8,7 +8,7 @@ use Rattle.tel_rule.specs.Rising.{numbers_rise}
 use Rattle.tel_semantics.specs.Traces.{Test, test_of, is_member, is_state, IsTrace}
 use Rattle.tel_semantics.specs.NodeFormula.{node_formula}
 use Rattle.tel_semantics.specs.Satisfaction.{sat}
-use Rattle.tel_base.proofs.Members.{Contains-from_In, In-from_Contains}
+use Rattle.tel_base.proofs.Members.{Contains-from_In, In-from_Contains, any_from}
 use Rattle.tel_semantics.specs.Lists.{full_trace}
 use Rattle.tel_semantics.specs.Theory.{theory, is_model}
 use Rattle.tel_semantics.specs.Equilibrium.{list_of}
@@ -26,14 +26,15 @@ use Rattle.formula_unfold.specs.Nodes.{counts_of}
 use Rattle.stable_models.specs.Values.{full}
 use Rattle.stable_models.proofs.ProgramRules.{program_rules, program_pairs}
 use Rattle.stable_models.specs.Laws.{full_of, trace_in, NodesOfSupported, StableAreSupported, NodesOfStable, NodesOfClosed, ModelsAreClosed, ClosedAreModels}
-use Rattle.stable_models.specs.Programs.{IsStableAt, IsSupportedAt, is_closed_at, modules_of, pairs_of_modules}
+use Rattle.completion.specs.Lengths.{pairs_of_modules}
+use Rattle.stable_models.specs.Programs.{IsStableAt, IsSupportedAt, is_closed_at, modules_of}
 use Rattle.stable_models.proofs.ModuleRules.{same_rules, same_pairs}
 use Rattle.formula_unfold.proofs.NodeReads.{get_same}
-use Rattle.stable_models.proofs.RuleCases.{range_from}
-use Rattle.stable_models.proofs.ModelSets.{any_from, atom_there, there_atom, model_closed, nodes_closed, has_end}
+use Rattle.completion.proofs.Ranges.{range_from}
+use Rattle.stable_models.proofs.ModelSets.{atom_there, there_atom, model_closed, nodes_closed, has_end}
 use Rattle.stable_models.proofs.Numbering.{full-part}
 use Rattle.stable_models.proofs.Parts.{within_n, closed_has}
-use Rattle.stable_models.proofs.Sets.{stable_supported}
+use Rattle.completion.proofs.Sets.{stable_supported}
 use Rattle.stable_models.proofs.Guarded.{is_guarded_node, guarded_is, guarded_free}
 use Rattle.stable_models.proofs.Stables.{stable_from_model, last_is, closed_model}
 use Rattle.stable_models.proofs.Found.{supported_is_full, stable_is_full, total_from_stable, minimal_from_stable}

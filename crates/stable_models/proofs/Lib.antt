@@ -4,7 +4,6 @@ pub mod Numbering
 pub mod Induction
 pub mod NodeSteps
 pub mod Parts
-pub mod Sets
 pub mod RuleCases
 pub mod Bodies
 pub mod ModelSets

@@ -1,8 +1,8 @@
 -- From models to closed sets, and back.
-use Rattle.std.proofs.Common.{◌≡◌, ℕ, ◌+◌, ◌-◌, ◌<◌, Bool, true, false, not, ◌&&◌, ◌||◌, List, [], ◌∷◌, length, refl, sym, ap, subst, inl, ◌∙◌, ⊎_elim, arith}
+use Rattle.std.proofs.Common.{◌≡◌, ℕ, ◌+◌, ◌-◌, ◌<◌, Bool, true, false, not, ◌&&◌, ◌||◌, List, [], ◌∷◌, length, refl, sym, ap, subst, inl, ◌∙◌, arith}
 use Rattle.std.specs.Prelude.{Option, Some, None, is_some, nat_lt}
-use Rattle.std.specs.List.{list_all, list_any}
-use Rattle.std.proofs.lemmas.Bool.{and_parts, and_from, or_left, or_right, lt-ltb, ltb-true, false≢true, false_from_ne_true}
+use Rattle.std.specs.List.{list_all}
+use Rattle.std.proofs.lemmas.Bool.{and_parts, and_from, lt-ltb, ltb-true, false≢true, false_from_ne_true}
 use Rattle.std.proofs.lemmas.List.Folds.{list_all-append}
 use Rattle.tel_rule.specs.declared.ground.Instance.{Instance}
 use Rattle.tel_rule.specs.declared.ground.GroundHead.{GroundHead}
@@ -12,7 +12,7 @@ use Rattle.tel_semantics.specs.Traces.{Test, IsBelow}
 use Rattle.tel_semantics.specs.Satisfaction.{sat}
 use Rattle.tel_semantics.specs.Theory.{body_formula, head_formula}
 use Rattle.tel_semantics.specs.Laws.{MeetsAll}
-use Rattle.tel_base.proofs.Members.{In, In-list_all, list_all-from_In, Contains-from_In}
+use Rattle.tel_base.proofs.Members.{In, In-list_all, list_all-from_In, Contains-from_In, any_found, any_from}
 use Rattle.tel_base.specs.declared.literals.Lit.{Lit}
 use Rattle.normal_program.specs.declared.rules.NRule.{NRule}
 use Rattle.atom_space.specs.Numbers.{Counts, visible, part, body_at, end_at}
@@ -27,7 +27,7 @@ use Rattle.stable_models.specs.Programs.{end_fact}
 use Rattle.stable_models.proofs.ProgramRules.{program_rules}
 use Rattle.stable_models.proofs.Numbering.{full-visible, full-end}
 use Rattle.stable_models.proofs.Parts.{NodesClosed, full_closed}
-use Rattle.stable_models.proofs.Sets.{lits-body, kept, keeps-from, any_found}
+use Rattle.completion.proofs.Sets.{lits-body, kept, keeps-from}
 use Rattle.stable_models.proofs.RuleCases.{Fact, Now, OfPart, NowIs, NextIs, now_is, next_is, rule_cases, some_same, in_part, in_now, in_next, in_if, Next as Later}
 use Rattle.stable_models.proofs.Bodies.{instance_to, not_true}
 
@@ -129,11 +129,6 @@ now_none program n T t rule lits (heads.Normal a false) l now is h = absurd (non
 now_none program n T t rule lits (heads.Choice a true) l now is h = absurd now
 now_none program n T t rule lits (heads.Choice a false) l now is h = absurd (none_some (visible (counts_of program) a t) rule.head is now.head_is)
 now_none program n T t rule lits heads.None l now is h = (sym now.body_is ∙ h, refl)
-
-pub any_from : {A : Type 0} (p : A → Bool) (xs : List A) (x : A) → In x xs → p x ≡ true → list_any p xs ≡ true
-any_from p [] x i h = absurd i
-any_from p (y ∷ xs) x i h =
-    ⊎_elim (λ e. or_left (p y) (list_any p xs) (ap p e ∙ h)) (λ m. or_right (p y) (list_any p xs) (any_from p xs x m h)) i
 
 pub end_there : (program : Ground) (n : ℕ) (H T : Test) → 0 < n → full program n H T (end_at (counts_of program) (n - 1)) ≡ true
 end_there program n H T some =

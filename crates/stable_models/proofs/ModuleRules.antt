@@ -10,7 +10,8 @@ use Rattle.normal_program.specs.Shapes.{rules_of_node}
 use Rattle.formula_unfold.specs.Nodes.{counts_of, node_at}
 use Rattle.step_module.specs.Rules.{instance_rules, instance_next, numbered}
 use Rattle.stable_models.proofs.ProgramRules.{node_rules, module_rules, program_rules, program_pairs}
-use Rattle.stable_models.specs.Programs.{end_fact, modules_of, rules_of_modules, pairs_of_modules}
+use Rattle.completion.specs.Lengths.{rules_of_modules, pairs_of_modules}
+use Rattle.stable_models.specs.Programs.{end_fact, modules_of}
 use Rattle.normal_program.specs.Grounds.{all_rules}
 use Rattle.step_module.specs.Modules.{module_of}
 

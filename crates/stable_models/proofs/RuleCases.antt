@@ -1,8 +1,8 @@
 -- What rules the program of a length has.
-use Rattle.std.proofs.Common.{◌≡◌, ℕ, zero, suc, ◌+◌, ◌-◌, ◌<◌, ◌≤◌, Bool, true, false, cond, List, [], ◌∷◌, ◌++◌, length, refl, sym, ap, subst, inl, inr, ◌∙◌, ⊎_elim, arith}
+use Rattle.std.proofs.Common.{◌≡◌, ℕ, ◌+◌, ◌-◌, ◌<◌, Bool, true, false, cond, List, [], ◌∷◌, ◌++◌, length, refl, sym, ap, subst, inl, inr, ◌∙◌, ⊎_elim, arith}
 use Rattle.std.specs.Prelude.{Option, Some, None, nat_lt}
 use Rattle.std.specs.List.{flat_map, range_with_len}
-use Rattle.std.proofs.lemmas.Bool.{cond-true, cond-false, lt-ltb, ltb-true, ltb-false, false≢true, cases_Bool}
+use Rattle.std.proofs.lemmas.Bool.{cond-true, cond-false, lt-ltb, ltb-true, false≢true, cases_Bool}
 use Rattle.tel_rule.specs.declared.ground.Instance.{Instance}
 use Rattle.tel_rule.specs.declared.ground.GroundHead.{GroundHead}
 use Rattle.tel_rule.specs.declared.ground.GroundHead.TheVariants as heads
@@ -19,7 +19,8 @@ use Rattle.step_module.specs.Bodies.{stands, body_lits}
 use Rattle.step_module.specs.Rules.{instance_rule, head_rules, next_rules, instance_rules, instance_next, numbered}
 use Rattle.stable_models.proofs.ProgramRules.{node_rules, module_rules, program_rules}
 use Rattle.stable_models.specs.Programs.{end_fact}
-use Rattle.stable_models.proofs.Sets.{lits-body}
+use Rattle.completion.proofs.Sets.{lits-body}
+use Rattle.completion.proofs.Ranges.{range_cases, range_from}
 
 -- a rule of an instance whose body is that of the state t
 pub record OfInstance (program : Ground) (make : Counts → ℕ → ℕ → Instance → List NRule) (t : ℕ) (rule : NRule) : Type 0 where
@@ -42,7 +43,7 @@ pub data Cases (program : Ground) (n : ℕ) (rule : NRule) : Type 0 where
   Next : (t : ℕ) → (t + 1) < n → OfInstance program instance_next t rule → Cases program n rule
   OfPart : (t : ℕ) → t < n → OfNode program t rule → Cases program n rule
 
-numbered_cases : (make : ℕ → Instance → List NRule) (first : ℕ) (instances : List Instance) (rule : NRule) → In rule (numbered make first instances) → (number : ℕ) × (instance : Instance) × In instance instances × In rule (make number instance)
+pub numbered_cases : (make : ℕ → Instance → List NRule) (first : ℕ) (instances : List Instance) (rule : NRule) → In rule (numbered make first instances) → (number : ℕ) × (instance : Instance) × In instance instances × In rule (make number instance)
 numbered_cases make first [] rule h = absurd h
 numbered_cases make first (instance ∷ more) rule h =
     ⊎_elim (λ here. (first, instance, inl refl, here)) (λ there. let w = numbered_cases make (first + 1) more rule there in (w.0, w.1, inr w.2, w.3)) (In-append_cases rule (make first instance) (numbered make (first + 1) more) h)
@@ -51,19 +52,6 @@ numbered_from : (make : ℕ → Instance → List NRule) (first : ℕ) (instance
 numbered_from make first [] instance h = absurd h
 numbered_from make first (other ∷ more) instance h =
     ⊎_elim (λ e. (first, λ rule found. In-append_left rule (make first other) (numbered make (first + 1) more) (subst (λ (i : Instance). In rule (make first i)) (sym e) found))) (λ m. let w = numbered_from make (first + 1) more instance m in (w.0, λ rule found. In-append_right rule (make first other) (numbered make (first + 1) more) (w.1 rule found))) h
-
-pub range_cases : (count low x : ℕ) → In x (range_with_len low count) → (low ≤ x) × (x < low + count)
-range_cases zero low x h = absurd h
-range_cases (suc count) low x h =
-    ⊎_elim (λ e. (omega (arith, e), omega (arith, e))) (λ m. let w = range_cases count (low + 1) x m in (omega (arith, w.0), omega (arith, w.1))) h
-
-same_low : (low x : ℕ) → low ≤ x → nat_lt low x ≡ false → low ≡ x
-same_low low x l t = omega (arith, l, ltb-false low x t)
-
-pub range_from : (count low x : ℕ) → low ≤ x → x < low + count → In x (range_with_len low count)
-range_from zero low x l u = absurd (omega (arith, l, u))
-range_from (suc count) low x l u =
-    ⊎_elim (λ (t : nat_lt low x ≡ true). inr (range_from count (low + 1) x (omega (arith, ltb-true low x t)) (omega (arith, u)))) (λ (t : nat_lt low x ≡ false). inl (same_low low x l t)) (cases_Bool (nat_lt low x))
 
 -- the three parts of a module
 next_case : (program : Ground) (n t : ℕ) (rule : NRule) → t < n → In rule (cond (nat_lt 0 t) (numbered (instance_next (counts_of program) (t - 1)) 0 program.instances) []) → Cases program n rule

@@ -27,7 +27,8 @@ use Rattle.stable_models.proofs.ProgramRules.{program_rules, program_pairs}
 use Rattle.step_module.specs.Modules.{pairs_at}
 use Rattle.stable_models.proofs.Numbering.{full-visible}
 use Rattle.stable_models.proofs.Parts.{Has, closed_has}
-use Rattle.stable_models.proofs.RuleCases.{Fact, Now, OfPart, now_is, next_is, rule_cases, range_cases, Next as Later}
+use Rattle.stable_models.proofs.RuleCases.{Fact, Now, OfPart, now_is, next_is, rule_cases, Next as Later}
+use Rattle.completion.proofs.Ranges.{range_cases}
 use Rattle.stable_models.proofs.Bodies.{HasParts, not_true, negated, negates, instance_from}
 use Rattle.stable_models.proofs.Guarded.{is_guarded_node, guarded_free, all_free, is_none, head_free}
 use Rattle.stable_models.proofs.ModelSets.{right_instance, head_holds, model_closed, nodes_closed, has_end, atom_there, rule_now, rule_next, now_none, next_head, none_some}

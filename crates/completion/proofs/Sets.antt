@@ -1,15 +1,15 @@
 -- Stable sets of any rules.
-use Rattle.std.proofs.Common.{◌≡◌, ℕ, Bool, true, false, cond, not, ◌&&◌, ◌||◌, List, [], ◌∷◌, map, refl, sym, ap, subst, inl, inr, ◌∙◌, ⊎_elim}
+use Rattle.std.proofs.Common.{◌≡◌, ℕ, Bool, true, false, cond, not, ◌&&◌, ◌||◌, List, [], ◌∷◌, map, refl, sym, ap, ◌∙◌, ⊎_elim}
 use Rattle.std.specs.Prelude.{Option, Some, None, ◌==◌}
 use Rattle.std.specs.List.{list_all, list_any, filter}
 use Rattle.std.proofs.lemmas.Bool.{and_parts, and_from, or_cases, or_left, or_right, eqb-true, eq-eqb, not_from_false, false≢true, cases_Bool}
-use Rattle.tel_base.proofs.Members.{In, In-list_all, list_all-from_In}
+use Rattle.tel_base.proofs.Members.{In, In-list_all, list_all-from_In, any_found, none_found}
 use Rattle.tel_base.specs.declared.literals.Lit.{Lit}
 use Rattle.normal_program.specs.declared.rules.NRule.{NRule}
 use Rattle.normal_program.specs.StableSets.{Set, lit_holds, lits_hold, body_holds, head_kept, keeps, is_closed, IsStable}
 use Rattle.normal_program.specs.Rules.{positives, negatives}
 
-first_one : (x a b : Bool) → ((x && a) && b) ≡ (x && (a && b))
+pub first_one : (x a b : Bool) → ((x && a) && b) ≡ (x && (a && b))
 first_one true a b = refl
 first_one false a b = refl
 
@@ -22,14 +22,6 @@ in_set : (c s : Bool) → c ≡ true → (c && not s) ≡ false → s ≡ true
 in_set true true c h = refl
 in_set true false c h = sym h
 in_set false s c h = absurd (false≢true c)
-
-false_left : (a b : Bool) → (a || b) ≡ false → a ≡ false
-false_left true b h = h
-false_left false b h = refl
-
-false_right : (a b : Bool) → (a || b) ≡ false → b ≡ false
-false_right true b h = absurd (false≢true (sym h))
-false_right false b h = h
 
 -- the literals of a rule, and the two lists that it keeps
 pub lits-body : (X S : Set) (lits : List Lit) → (list_all X (positives lits) && list_all (λ v. not (S v)) (negatives lits)) ≡ lits_hold X S lits
@@ -77,16 +69,6 @@ head_is v (Some head) = head == v
 
 supports : Set → ℕ → NRule → Bool
 supports S v rule = head_is v rule.head && body_holds S S rule
-
-pub any_found : {A : Type 0} (p : A → Bool) (xs : List A) → list_any p xs ≡ true → (x : A) × In x xs × (p x ≡ true)
-any_found p [] h = absurd (false≢true h)
-any_found p (x ∷ xs) h =
-    ⊎_elim (λ here. (x, inl refl, here)) (λ there. let w = any_found p xs there in (w.0, inr w.1, w.2)) (or_cases (p x) (list_any p xs) h)
-
-pub none_found : {A : Type 0} (p : A → Bool) (xs : List A) (x : A) → list_any p xs ≡ false → In x xs → p x ≡ false
-none_found p [] x h i = absurd i
-none_found p (y ∷ xs) x h i =
-    ⊎_elim (λ e. subst (λ z. p z ≡ false) e (false_left (p y) (list_any p xs) h)) (λ m. none_found p xs x (false_right (p y) (list_any p xs) h) m) i
 
 is_some_of : (v : ℕ) (o : Option ℕ) → head_is v o ≡ true → o ≡ Some v
 unfolding head_is
