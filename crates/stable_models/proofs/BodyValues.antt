@@ -16,7 +16,7 @@ use Rattle.stable_models.proofs.Numbering.{full-place}
 abbrev first_of : Ground → ℕ
 first_of program = length program.atoms + length program.nodes
 
-abbrev added : Ground → ℕ → Test → ℕ → ℕ → Bool
+abbrev pub added : Ground → ℕ → Test → ℕ → ℕ → Bool
 added program n T t place = nat_lt t n && (nat_le (first_of program) place && body_value program (full program n T T) t (slice_get program.instances (place - first_of program)))
 
 at_place : (program : Ground) (n : ℕ) (T : Test) (t place : ℕ) → place < width (counts_of program) → full_with_bodies program n T (t * width (counts_of program) + place) ≡ (full program n T T (t * width (counts_of program) + place) || added program n T t place)
@@ -26,11 +26,11 @@ at_place program n T t place within =
     let m = mod-mul-add t w place within in
     λ i. full program n T T (t * w + place) || added program n T (d i) (m i)
 
-or_none : (x z : Bool) → z ≡ false → (x || z) ≡ x
+pub or_none : (x z : Bool) → z ≡ false → (x || z) ≡ x
 or_none true z is = refl
 or_none false z is = is
 
-none_below : (program : Ground) (n : ℕ) (T : Test) (t place : ℕ) → place < first_of program → added program n T t place ≡ false
+pub none_below : (program : Ground) (n : ℕ) (T : Test) (t place : ℕ) → place < first_of program → added program n T t place ≡ false
 none_below program n T t place below =
     and_right (nat_lt t n) _ (and_left (nat_le (first_of program) place) _ (lt-leb (first_of program) place below))
 
@@ -38,7 +38,7 @@ get_past : (xs : List Instance) → slice_get xs (length xs) ≡ None
 get_past [] = refl
 get_past (x ∷ xs) = get_past xs
 
-none_at_end : (program : Ground) (n : ℕ) (T : Test) (t : ℕ) → added program n T t (first_of program + length program.instances) ≡ false
+pub none_at_end : (program : Ground) (n : ℕ) (T : Test) (t : ℕ) → added program n T t (first_of program + length program.instances) ≡ false
 none_at_end program n T t =
     let place = first_of program + length program.instances in
     let past : slice_get program.instances (place - first_of program) ≡ None = ap (slice_get program.instances) (omega arith) ∙ get_past program.instances in

@@ -15,3 +15,7 @@ pub mod LawProofs
 pub mod Examples
 pub mod BodyValues
 pub mod OperatorSets
+pub mod SettledModules
+pub mod PlainShapes
+pub mod PlainModules
+pub mod ValuedModels

@@ -1,5 +1,5 @@
 -- The stable sets of the program of a length are its temporal equilibrium models.
-use Rattle.std.specs.Prelude.{◌≡◌, ℕ, ◌<◌, true, ◌&&◌, List, length, slice_get, slice_index_or, IsTrue}
+use Rattle.std.specs.Prelude.{◌≡◌, ℕ, ◌-◌, ◌<◌, true, ◌&&◌, List, length, slice_get, slice_index_or, IsTrue}
 use Rattle.std.specs.List.{Contains}
 use Rattle.tel_rule.specs.Ground.{Ground, IsGround}
 use Rattle.tel_rule.specs.Nodes.{guards}
@@ -11,7 +11,11 @@ use Rattle.tel_semantics.specs.Equilibrium.{list_of}
 use Rattle.normal_program.specs.StableSets.{Set}
 use Rattle.atom_space.specs.Numbers.{visible, part, body_at, end_at}
 use Rattle.formula_unfold.specs.Nodes.{counts_of}
-use Rattle.stable_models.specs.Values.{full, body_value, full_with_bodies}
+use Rattle.step_module.specs.Modules.{module_of}
+use Rattle.completion.specs.Completions.{AreSettled}
+use Rattle.completion.specs.Lengths.{AreApart, ArePlain, IsValued}
+use Rattle.completion.specs.Laws.{SatisfiesClauses}
+use Rattle.stable_models.specs.Values.{full, body_value, full_with_bodies, is_plain}
 use Rattle.stable_models.specs.Programs.{IsStableAt, IsSupportedAt, is_closed_at}
 
 -- the set of a trace
@@ -74,3 +78,25 @@ pub record BodiesAreAdded (program : Ground) (n : ℕ) (T : Test) : Type 0 where
 
 abbrev pub SetsHaveBodies : Type 0
 SetsHaveBodies = (program : Ground) (n : ℕ) (T : Test) → BodiesAreAdded program n T
+
+-- the modules of a program are settled
+abbrev pub TemplatesAreSettled : Type 0
+TemplatesAreSettled = (program : Ground) (n : ℕ) → IsGround program → AreSettled (module_of program) n
+
+-- their ends and open variables are apart from the heads of states so far
+abbrev pub TemplatesAreApart : Type 0
+TemplatesAreApart = (program : Ground) (n : ℕ) → IsGround program → AreApart (module_of program) n
+
+-- but for the variables of their bodies they speak of atoms, nodes and ends
+abbrev pub TemplatesArePlain : Type 0
+TemplatesArePlain = (program : Ground) (n : ℕ) → IsGround program → ArePlain (module_of program) n (is_plain program)
+
+-- the set of a trace with the variables of its bodies has the values of the bodies
+abbrev pub ModelsAreValued : Type 0
+ModelsAreValued = (program : Ground) (n : ℕ) (T : Test) → IsValued (module_of program) n (is_plain program) (full program n T T) (full_with_bodies program n T)
+
+-- so that of each model makes the clauses of the modules true, and has the end
+abbrev pub ModelsSatisfyClauses : Type 0
+ModelsSatisfyClauses =
+    (program : Ground) (n : ℕ) (trace : List (List ℕ)) → IsGround program → 0 < n → Contains (list_of program n) trace
+    → SatisfiesClauses (module_of program) n (full_with_bodies program n (test_of trace)) × IsTrue (full_with_bodies program n (test_of trace) (end_at (counts_of program) (n - 1)))

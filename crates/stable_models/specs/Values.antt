@@ -34,3 +34,9 @@ full_with_bodies program n T v =
     let w = width (counts_of program) in
     let first = length program.atoms + length program.nodes in
     full program n T T v || (nat_lt (v / w) n && (nat_le first (v % w) && body_value program (full program n T T) (v / w) (slice_get program.instances (v % w - first))))
+
+-- whether a variable is of an atom, a node or an end; the others stand for bodies
+abbrev pub is_plain : Ground → Set
+is_plain program v =
+    let place = v % width (counts_of program) in
+    nat_lt place (length program.atoms + length program.nodes) || (place == length program.atoms + length program.nodes + length program.instances)

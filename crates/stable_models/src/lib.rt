@@ -3,4 +3,4 @@
 
 mod laws;
 
-pub use laws::{closed_sets, nodes, sets_with_bodies, stable_sets};
+pub use laws::{closed_sets, model_clauses, nodes, sets_with_bodies, settled_modules, stable_sets};
