@@ -54,7 +54,7 @@ sets_of p n = map (λ (trace : List (List ℕ)). filter (full_of p n trace) (ran
 
 -- ---- a positive loop through two states: p :- &tel { >? q }. #program dynamic. q :- 'p.
 
-abbrev loop : Ground
+abbrev pub loop : Ground
 loop =
     program (atom 0 ∷ atom 1 ∷ []) [] (record { op = ops.Unary unary.OnceAfter; kids = kids.Atom 1 ∷ [] } ∷ [])
     (instance parts.Always (heads.Normal 0 false) (holds 0 ∷ []) ∷ instance parts.Dynamic (heads.Normal 1 false) (before 0 ∷ []) ∷ [])

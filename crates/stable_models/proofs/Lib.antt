@@ -19,3 +19,4 @@ pub mod SettledModules
 pub mod PlainShapes
 pub mod PlainModules
 pub mod ValuedModels
+pub mod ClauseExamples
