@@ -8,3 +8,4 @@ pub mod Ordered
 pub mod Listing
 pub mod Climbing
 pub mod TrailLevels
+pub mod Composing

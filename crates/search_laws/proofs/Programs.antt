@@ -1,8 +1,8 @@
--- Rules in a stable set: what a set that isn't closed lacks, and that a stable set is supported.
+-- Rules in a stable set: what a set that isn't closed lacks.
 use Rattle.std.proofs.Common.{◌≡◌, ℕ, Bool, true, false, not, ◌&&◌, ◌||◌, List, refl, sym, ap, ◌∙◌, ⊎_elim}
-use Rattle.std.specs.Prelude.{Option, Some, None, ◌==◌}
+use Rattle.std.specs.Prelude.{Option, Some, None}
 use Rattle.std.specs.List.{list_all}
-use Rattle.std.proofs.lemmas.Bool.{and_parts, and_from, cases_Bool, or_parts, not-true, not-false, false≢true, eq-eqb, eqb-true}
+use Rattle.std.proofs.lemmas.Bool.{and_parts, and_from, cases_Bool, or_parts, not-true, not-false, false≢true}
 use Rattle.tel_base.proofs.Members.{In, In-list_all, list_all-from_In, all_lost}
 use Rattle.normal_program.specs.declared.rules.NRule.{NRule}
 use Rattle.normal_program.specs.StableSets.{Set, body_holds, head_kept, keeps, is_closed, IsStable}
@@ -60,9 +60,3 @@ lost_part rules pairs S U stable v t inside =
       body = body;
       outside = λ u m. not-true (U u) (and_parts (S u) (not (U u)) (In-list_all X u rule.pos b.0 m)).1;
     }) (cases_Bool (is_closed rules S X))
-
--- each variable of a stable set is the head of a rule whose body holds
-pub supported : (rules : List NRule) (pairs : List (ℕ × ℕ)) (S : Set) → IsStable rules pairs S → (v : ℕ) → S v ≡ true → (rule : NRule) × In rule rules × (rule.head ≡ Some v) × (body_holds S S rule ≡ true)
-supported rules pairs S stable v h =
-    let l = lost_part rules pairs S (λ u. u == v) stable v h (eq-eqb v v refl) in
-    (l.rule, l.inside, l.is_head ∙ ap Some (eqb-true l.head v l.within), l.body)

@@ -1,5 +1,5 @@
 -- The laws of the search.
-use Rattle.std.specs.Prelude.{◌≡◌, ℕ, ◌<◌, ◌≤◌, Bool, List, Some, IsTrue, IsFalse, ◌⊎◌}
+use Rattle.std.specs.Prelude.{◌≡◌, ℕ, ◌<◌, ◌≤◌, Bool, List, Some, None, IsTrue, IsFalse, ◌⊎◌}
 use Rattle.std.specs.List.{list_all}
 use Rattle.tel_base.specs.declared.literals.Lit.{Lit}
 use Rattle.tel_base.specs.Members.{In}
@@ -7,11 +7,13 @@ use Rattle.clause_store.specs.declared.store.ClauseKind.TheVariants as kinds
 use Rattle.clause_store.specs.Closure.{Clause}
 use Rattle.normal_program.specs.declared.rules.NRule.{NRule}
 use Rattle.normal_program.specs.declared.modules.BodyDef.{BodyDef}
+use Rattle.normal_program.specs.declared.modules.StepModule.{StepModule}
 use Rattle.normal_program.specs.Grounds.{is_head}
 use Rattle.normal_program.specs.StableSets.{Set, body_holds, lits_hold}
-use Rattle.completion.specs.Completions.{clause_true}
+use Rattle.completion.specs.Completions.{clause_true, AreSettled}
+use Rattle.completion.specs.Lengths.{IsStableOf, AreApart, ArePlain}
 use Rattle.search_laws.specs.Walks.{IsClosedWalk, Before, Agree, UpTo}
-use Rattle.search_laws.specs.Lengths.{Length, bodies_of, is_plain, IsStableAt, IsValued, Stands, with_bodies}
+use Rattle.search_laws.specs.Lengths.{Length, length_of, bodies_of, is_plain, IsStableAt, IsValued, Stands, with_bodies}
 use Rattle.search_laws.specs.Origins.{Kept, lits_of, Finds, IsBlock, Origin, Grown}
 use Rattle.search_laws.specs.Needed.{IsFound, Needed}
 use Rattle.search_laws.specs.Runs.{Run, InOrder}
@@ -39,8 +41,8 @@ ValuesStand =
 -- ---- lengths made of modules
 
 -- what the lengths up to n are to that of n: each rule for a head of a shorter length stands there already; each rule with a Body variable has the
--- body that this stands for; Body variables are no heads, no ends and in no body; ends are no heads, and different; and the stable sets with the
--- values of the bodies make the clauses of the modules true
+-- body that this stands for, and another one no Body variable in its body; Body variables are no heads and no ends; ends are no heads, and different;
+-- and the stable sets with the values of the bodies make the clauses of the modules true
 pub record AreComposed (lengths : ℕ → Length) (n : ℕ) : Type 0 where
   pub some : 0 < n
   pub composed : (k : ℕ) → 0 < k → k ≤ n → (rule : NRule) (head : ℕ) → In rule (lengths n).ground.rules → rule.head ≡ Some head → IsTrue (is_head (lengths k).ground.modules head) → In rule (lengths k).ground.rules
@@ -48,13 +50,21 @@ pub record AreComposed (lengths : ℕ → Length) (n : ℕ) : Type 0 where
   pub named : (rule : NRule) (head var : ℕ) → In rule (lengths n).ground.rules → rule.head ≡ Some head → rule.body ≡ Some var → (def : BodyDef) × In def (bodies_of (lengths n)) × (def.var ≡ var) × ((S : Set) → body_holds S S rule ≡ lits_hold S S def.lits)
   pub one_body : (def other : BodyDef) → In def (bodies_of (lengths n)) → In other (bodies_of (lengths n)) → def.var ≡ other.var → def.lits ≡ other.lits
   pub plain_heads : (k var : ℕ) → 0 < k → k ≤ n → IsTrue (is_head (lengths k).ground.modules var) → IsTrue (is_plain (lengths n) var)
-  pub plain_pos : (rule : NRule) (var : ℕ) → In rule (lengths n).ground.rules → In var rule.pos → IsTrue (is_plain (lengths n) var)
-  pub plain_neg : (rule : NRule) (var : ℕ) → In rule (lengths n).ground.rules → In var rule.neg → IsTrue (is_plain (lengths n) var)
+  pub plain_pos : (rule : NRule) (head var : ℕ) → In rule (lengths n).ground.rules → rule.head ≡ Some head → rule.body ≡ None → In var rule.pos → IsTrue (is_plain (lengths n) var)
+  pub plain_neg : (rule : NRule) (head var : ℕ) → In rule (lengths n).ground.rules → rule.head ≡ Some head → rule.body ≡ None → In var rule.neg → IsTrue (is_plain (lengths n) var)
   pub visible_heads : (var : ℕ) → In var (lengths n).visible → IsTrue (is_head (lengths n).ground.modules var)
   pub plain_end : (k : ℕ) → 0 < k → k ≤ n → IsTrue (is_plain (lengths n) (lengths k).ending)
   pub ends_no_heads : (j k : ℕ) → 0 < j → j ≤ n → 0 < k → k ≤ n → IsFalse (is_head (lengths j).ground.modules (lengths k).ending)
   pub ends_differ : (k : ℕ) → 0 < k → k < n → (lengths k).ending ≡ (lengths n).ending → ⊥
   pub completed : (S values : Set) → Stands (lengths n) S values → (k : ℕ) → 0 < k → k ≤ n → (clause : Clause) → In clause (lengths k).clauses → IsTrue (clause_true values clause)
+
+-- modules that their rules settle, with variables that are apart, are so composed
+abbrev pub ModulesAreComposed : Type 0
+ModulesAreComposed = (steps : ℕ → StepModule) (n : ℕ) (plain : Set) → 0 < n → AreSettled steps n → AreApart steps n → ArePlain steps n plain → AreComposed (length_of steps) n
+
+-- their stable sets are those of the length
+abbrev pub StableSetsAgree : Type 0
+StableSetsAgree = (steps : ℕ → StepModule) (n : ℕ) (S : Set) → (IsStableOf steps n S → IsStableAt (length_of steps n) S) × (IsStableAt (length_of steps n) S → IsStableOf steps n S)
 
 -- ---- kept clauses are right
 

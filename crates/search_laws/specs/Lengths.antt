@@ -1,5 +1,5 @@
 -- What the search knows of a length: the program of the states below it, its end, and the order of its variables.
-use Rattle.std.specs.Prelude.{◌≡◌, ℕ, ◌-◌, false, not, ◌||◌, List, [], ◌∷◌, map, Some, None, IsTrue, ◌==◌, if◌then◌else◌}
+use Rattle.std.specs.Prelude.{◌≡◌, ℕ, ◌-◌, not, ◌||◌, List, [], ◌∷◌, map, IsTrue, ◌==◌, if◌then◌else◌}
 use Rattle.std.specs.List.{list_any, flat_map, range_with_len}
 use Rattle.tel_base.specs.Members.{In}
 use Rattle.clause_store.specs.Closure.{Clause}
@@ -10,6 +10,7 @@ use Rattle.normal_program.specs.declared.modules.StepModule.{StepModule}
 use Rattle.normal_program.specs.Grounds.{is_head, Layers, layers_of, all_rules, parts_of}
 use Rattle.normal_program.specs.StableSets.{Set, IsStable, lits_hold}
 use Rattle.normal_program.specs.ModuleClauses.{clauses_of}
+use Rattle.completion.specs.Lengths.{fact_of, modules_below}
 
 -- a length: the rules and the other parts of the modules of its states, the variable of its end, the variables of the atoms of its states in
 -- the order of traces, and the clauses of its last module
@@ -22,7 +23,7 @@ pub record Length : Type 0 where
 -- the length n of these modules, one for each state
 abbrev pub length_of : (ℕ → StepModule) → ℕ → Length
 length_of steps n = record {
-  ground = layers_of (flat_map (λ (t : ℕ). all_rules (steps t)) (range_with_len 0 n)) (map (λ (t : ℕ). parts_of (steps t)) (range_with_len 0 n));
+  ground = layers_of (flat_map all_rules (modules_below steps n)) (map parts_of (modules_below steps n));
   ending = (steps (n - 1)).end;
   visible = flat_map (λ (t : ℕ). (steps t).atoms) (range_with_len 0 n);
   clauses = clauses_of (steps (n - 1));
@@ -30,12 +31,9 @@ length_of steps n = record {
 
 -- ---- its stable sets
 
--- the fact that the trace ends
-abbrev pub end_rule : ℕ → NRule
-end_rule ending = record { head = Some ending; choice = false; pos = []; neg = []; body = None }
-
+-- the rules, with the end as a fact, the pairs and the bodies
 abbrev pub rules_of : Length → List NRule
-rules_of length = end_rule length.ending ∷ length.ground.rules
+rules_of length = fact_of length.ending ∷ length.ground.rules
 
 abbrev pub pairs_of : Length → List (ℕ × ℕ)
 pairs_of length = flat_map (λ (parts : ModuleParts). parts.pairs) length.ground.modules

@@ -1,7 +1,7 @@
 //! Laws of the definitions: functions that do nothing, whose contracts are proved facts.
 
 ghost use Rattle.search_laws.specs.Levels.{LevelsAreTotal, LevelsAreStuck};
-ghost use Rattle.search_laws.specs.Laws.{EndsAreApart, FoundIsOne, ValuesStand, FoundIsFinds, ModulesAndLoopsAreRight, LearntAreRight, BlocksAreRight, KeptAreRight, FoundMeetsAll, NextIsNext, FoundInOrder, ClosedFoundAll};
+ghost use Rattle.search_laws.specs.Laws.{EndsAreApart, FoundIsOne, ValuesStand, FoundIsFinds, ModulesAreComposed, StableSetsAgree, ModulesAndLoopsAreRight, LearntAreRight, BlocksAreRight, KeptAreRight, FoundMeetsAll, NextIsNext, FoundInOrder, ClosedFoundAll};
 
 /// A walk ends in one way alone: it is closed, or a further clause is needed, or it finds one stable
 /// set.
@@ -35,4 +35,10 @@ pub fn search_order()
 pub fn walk_levels()
     ensures total { LevelsAreTotal }
     ensures stuck { LevelsAreStuck }
+{}
+
+/// Lengths that are made of settled modules are as the laws of kept clauses and of the order ask.
+pub fn composed_lengths()
+    ensures composed { ModulesAreComposed }
+    ensures stable { StableSetsAgree }
 {}

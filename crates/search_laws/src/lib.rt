@@ -4,4 +4,4 @@
 
 mod laws;
 
-pub use laws::{kept_clauses, search_order, walk_ends, walk_levels};
+pub use laws::{composed_lengths, kept_clauses, search_order, walk_ends, walk_levels};
