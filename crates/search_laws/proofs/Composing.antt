@@ -48,6 +48,9 @@ body_from steps n def i = below_from (λ (step : StepModule). step.bodies) steps
 pub body_to : (steps : ℕ → StepModule) (n t : ℕ) (def : BodyDef) → t < n → In def (steps t).bodies → In def (bodies_of (length_of steps n))
 body_to steps n t def l i = subst (λ (ds : List BodyDef). In def ds) (sym (bodies_same steps n)) (below_to (λ (step : StepModule). step.bodies) steps n t def l i)
 
+pub pair_from : (steps : ℕ → StepModule) (n : ℕ) (pair : ℕ × ℕ) → In pair (pairs_of (length_of steps n)) → (t : ℕ) × (t < n) × In pair (steps t).pairs
+pair_from steps n pair i = below_from (λ (step : StepModule). step.pairs) steps n pair (subst (λ (ps : List (ℕ × ℕ)). In pair ps) (pairs_same steps n) i)
+
 pub rule_from : (steps : ℕ → StepModule) (n : ℕ) (rule : NRule) → In rule (length_of steps n).ground.rules → (t : ℕ) × (t < n) × In rule (all_rules (steps t))
 rule_from steps n rule i = below_from all_rules steps n rule i
 
@@ -97,7 +100,7 @@ stable_agree steps n S = (from_stable steps n S, to_stable steps n S)
 -- ---- composed
 
 module _ (steps : ℕ → StepModule) (n : ℕ) (plain : Set) (some : 0 < n) (settled : AreSettled steps n) (separate : AreApart steps n) (speak : ArePlain steps n plain) where
-  head_of : (t : ℕ) → t < n → (rule : NRule) (var : ℕ) → In rule (all_rules (steps t)) → rule.head ≡ Some var → IsHead (steps t) var
+  pub head_of : (t : ℕ) → t < n → (rule : NRule) (var : ℕ) → In rule (all_rules (steps t)) → rule.head ≡ Some var → IsHead (steps t) var
   head_of t l rule var i is =
       ⊎_elim (λ m. inl ((settled.each t l).heads rule var m is)) (λ (k : (node : NodeRule) × In node (steps t).nodes × ((lits : List Lit) × In lits (shape_bodies node.shape) × (node_rule node.var lits ≡ rule))).
       inr (k.0, k.1, node_head k.0.var var k.2.0 rule k.2.2 is)) (rule_kind (steps t) rule i)

@@ -9,3 +9,5 @@ pub mod Listing
 pub mod Climbing
 pub mod TrailLevels
 pub mod Composing
+pub mod Foundations
+pub mod TotalTrails

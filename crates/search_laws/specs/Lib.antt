@@ -5,3 +5,4 @@ pub mod Needed
 pub mod Runs
 pub mod Laws
 pub mod Levels
+pub mod Founded

@@ -1,5 +1,6 @@
 //! Laws of the definitions: functions that do nothing, whose contracts are proved facts.
 
+ghost use Rattle.search_laws.specs.Founded.{FoundedIsStable, NoneIsStable, SomeIsUnstable};
 ghost use Rattle.search_laws.specs.Levels.{LevelsAreTotal, LevelsAreStuck};
 ghost use Rattle.search_laws.specs.Laws.{EndsAreApart, FoundIsOne, ValuesStand, FoundIsFinds, ModulesAreComposed, StableSetsAgree, ModulesAndLoopsAreRight, LearntAreRight, BlocksAreRight, KeptAreRight, FoundMeetsAll, NextIsNext, FoundInOrder, ClosedFoundAll};
 
@@ -41,4 +42,11 @@ pub fn walk_levels()
 pub fn composed_lengths()
     ensures composed { ModulesAreComposed }
     ensures stable { StableSetsAgree }
+{}
+
+/// The true variables of a total trail are stable exactly where no unfounded set holds one of them.
+pub fn founded_trails()
+    ensures founded { FoundedIsStable }
+    ensures none { NoneIsStable }
+    ensures some { SomeIsUnstable }
 {}

@@ -4,4 +4,6 @@
 
 mod laws;
 
-pub use laws::{composed_lengths, kept_clauses, search_order, walk_ends, walk_levels};
+pub use laws::{
+    composed_lengths, founded_trails, kept_clauses, search_order, walk_ends, walk_levels,
+};
