@@ -11,3 +11,4 @@ pub mod TrailLevels
 pub mod Composing
 pub mod Foundations
 pub mod TotalTrails
+pub mod Examples
