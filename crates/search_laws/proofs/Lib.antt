@@ -12,3 +12,5 @@ pub mod Composing
 pub mod Foundations
 pub mod TotalTrails
 pub mod Examples
+pub mod FoundTrails
+pub mod Gaps

@@ -1,7 +1,7 @@
 -- When the true variables of a trail are a stable set: they are a model of the rules, and none of them is unfounded (Van Gelder, Ross and Schlipf,
 -- 1991; Lin and Zhao, 2004).
-use Rattle.std.specs.Prelude.{◌≡◌, ℕ, ◌-◌, ◌<◌, not, ◌&&◌, List, is_some, IsTrue, IsFalse, ◌⊎◌}
-use Rattle.std.specs.List.{list_all}
+use Rattle.std.specs.Prelude.{◌≡◌, ℕ, suc, ◌-◌, ◌<◌, not, ◌&&◌, List, None, is_some, IsTrue, IsFalse, ◌⊎◌}
+use Rattle.std.specs.List.{find, list_all}
 use Rattle.tel_base.specs.declared.literals.Lit.{Lit}
 use Rattle.tel_base.specs.Members.{In}
 use Rattle.normal_program.specs.declared.rules.NRule.{NRule}
@@ -12,11 +12,17 @@ use Rattle.normal_program.specs.Shapes.{shape_bodies}
 use Rattle.normal_program.specs.StableSets.{Set, body_holds, is_closed, is_met, IsStable}
 use Rattle.lit_trail.specs.declared.assignment.Entry.{Entry}
 use Rattle.lit_trail.specs.Entries.{value_in}
+use Rattle.lit_trail.specs.Levels.{AreLevels}
+use Rattle.lit_trail.specs.Unassigned.{is_open}
+use Rattle.lit_trail.specs.Sound.{holds}
 use Rattle.unfounded_sets.specs.Unfounded.{is_true, body_lits, head_in, IsUnfounded}
 use Rattle.unfounded_sets.specs.LoopClauses.{NoneHolds}
-use Rattle.completion.specs.Completions.{AreSettled, IsHead}
+use Rattle.clause_store.specs.Closure.{Clause, IsClosedLevel}
+use Rattle.completion.specs.Completions.{clause_true, AreSettled, IsHead}
 use Rattle.completion.specs.Lengths.{AreApart, ArePlain}
 use Rattle.completion.specs.Laws.{SatisfiesClauses}
+use Rattle.search_laws.specs.Needed.{IsFound, IsUnstable}
+use Rattle.search_laws.specs.Levels.{IsWalking}
 use Rattle.search_laws.specs.Lengths.{Length, length_of, in_program, IsStableAt}
 
 -- ---- of any rules
@@ -69,3 +75,30 @@ abbrev pub SomeIsUnstable : Type 0
 SomeIsUnstable =
     (steps : ℕ → StepModule) (n : ℕ) (plain : Set) (entries : List Entry) (U : Set) (v : ℕ) → AreModules steps n plain → IsTotalTrail steps n entries → IsUnfounded (length_of steps n).ground entries U → IsTrue (U v) → IsTrue (is_true entries v)
     → IsStableAt (length_of steps n) (true_set (length_of steps n) entries) → ⊥
+
+-- ---- of a walk
+
+-- a trail whose levels are a total walk, all levels of it, and which is total
+pub record IsTotalAt (steps : ℕ → StepModule) (n : ℕ) (plain : Set) (clauses : List Clause) (entries : List Entry) (m : ℕ) (decisions : List Lit) : Type 0 where
+  pub modules : AreModules steps n plain
+  pub walking : IsWalking (length_of steps n) clauses entries m decisions
+  pub top : AreLevels (suc m) entries
+  pub visible : find (is_open entries) (length_of steps n).visible ≡ None
+  pub trail : IsTotalTrail steps n entries
+
+-- then the walk finds the true variables where no unfounded set holds one of them
+abbrev pub TrailIsFound : Type 0
+TrailIsFound =
+    (steps : ℕ → StepModule) (n : ℕ) (plain : Set) (clauses : List Clause) (entries : List Entry) (m : ℕ) (decisions : List Lit) → IsTotalAt steps n plain clauses entries m decisions → NoneHolds (length_of steps n).ground entries
+    → IsFound (length_of steps n) clauses decisions (true_set (length_of steps n) entries)
+
+-- and else a further clause is needed
+abbrev pub TrailIsUnstable : Type 0
+TrailIsUnstable =
+    (steps : ℕ → StepModule) (n : ℕ) (plain : Set) (clauses : List Clause) (entries : List Entry) (m : ℕ) (decisions : List Lit) (U : Set) (v : ℕ) → IsTotalAt steps n plain clauses entries m decisions → IsUnfounded (length_of steps n).ground entries U → IsTrue (U v) → IsTrue (is_true entries v)
+    → IsUnstable (length_of steps n) clauses decisions (true_set (length_of steps n) entries)
+
+-- a trail that leaves nothing to derive makes each clause true of whose variables it says the values
+abbrev pub ClosedMakesTrue : Type 0
+ClosedMakesTrue =
+    (clauses : List Clause) (entries : List Entry) (clause : Clause) → IsClosedLevel clauses (holds entries) → In clause clauses → ((lit : Lit) → In lit clause → IsTrue (is_some (value_in entries lit))) → IsTrue (clause_true (is_true entries) clause)

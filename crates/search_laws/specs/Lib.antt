@@ -6,3 +6,4 @@ pub mod Runs
 pub mod Laws
 pub mod Levels
 pub mod Founded
+pub mod Gaps

@@ -1,6 +1,7 @@
 //! Laws of the definitions: functions that do nothing, whose contracts are proved facts.
 
-ghost use Rattle.search_laws.specs.Founded.{FoundedIsStable, NoneIsStable, SomeIsUnstable};
+ghost use Rattle.search_laws.specs.Founded.{FoundedIsStable, NoneIsStable, SomeIsUnstable, TrailIsFound, TrailIsUnstable, ClosedMakesTrue};
+ghost use Rattle.search_laws.specs.Gaps.{ShapeHasValue};
 ghost use Rattle.search_laws.specs.Levels.{LevelsAreTotal, LevelsAreStuck};
 ghost use Rattle.search_laws.specs.Laws.{EndsAreApart, FoundIsOne, ValuesStand, FoundIsFinds, ModulesAreComposed, StableSetsAgree, ModulesAndLoopsAreRight, LearntAreRight, BlocksAreRight, KeptAreRight, FoundMeetsAll, NextIsNext, FoundInOrder, ClosedFoundAll};
 
@@ -49,4 +50,12 @@ pub fn founded_trails()
     ensures founded { FoundedIsStable }
     ensures none { NoneIsStable }
     ensures some { SomeIsUnstable }
+{}
+
+/// A total trail whose levels are the walk is what the walk finds, or shows that a clause is needed.
+pub fn found_trails()
+    ensures found { TrailIsFound }
+    ensures unstable { TrailIsUnstable }
+    ensures closed { ClosedMakesTrue }
+    ensures shapes { ShapeHasValue }
 {}

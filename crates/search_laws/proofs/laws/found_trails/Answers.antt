@@ -1,0 +1,15 @@
+use Rattle.search_laws.proofs.FoundTrails.{trail_is_found, trail_is_unstable, closed_makes_true}
+use Rattle.search_laws.proofs.Gaps.{shape_has_value}
+use Rattle.search_laws.proofs.laws.found_trails.Goals as goal
+
+pub returns-clause-found : goal.returns-clause-found
+returns-clause-found c = trail_is_found
+
+pub returns-clause-unstable : goal.returns-clause-unstable
+returns-clause-unstable c = trail_is_unstable
+
+pub returns-clause-closed : goal.returns-clause-closed
+returns-clause-closed c = closed_makes_true
+
+pub returns-clause-shapes : goal.returns-clause-shapes
+returns-clause-shapes c = shape_has_value
