@@ -1,0 +1,4 @@
+pub mod ListSteps
+pub mod Numbering
+pub mod Placing
+pub mod Pushes

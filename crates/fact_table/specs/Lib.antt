@@ -1,0 +1,5 @@
+pub mod Equal
+pub mod Lists
+pub mod Rows
+pub mod Columns
+pub mod Held
