@@ -1,0 +1,4 @@
+pub mod BindingOrder
+pub mod OneList
+pub mod Outcomes
+pub mod Examples

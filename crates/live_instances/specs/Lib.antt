@@ -1,0 +1,4 @@
+pub mod Bindings
+pub mod Instances
+pub mod Laws
+pub mod Reached
