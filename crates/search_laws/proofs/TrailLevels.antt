@@ -71,7 +71,7 @@ decision_there k (entry ∷ older) lit h =
     subst (λ (es : List Entry). In lit (decided_lits es)) (sym (cond-false (nat_lt k entry.level) (back k older) (entry ∷ older) g)) (decided_on entry older lit (decided_of k older lit rest))) (cases_Bool (nat_lt k entry.level))) (cases_Bool here)
 
 -- level 0 has none
-none_decided : (top : ℕ) (entries : List Entry) (lit : Lit) → AreLevels top entries → AreOpened entries → In lit (decided_lits (back 0 entries)) → ⊥
+pub none_decided : (top : ℕ) (entries : List Entry) (lit : Lit) → AreLevels top entries → AreOpened entries → In lit (decided_lits (back 0 entries)) → ⊥
 none_decided top [] lit levels opened i = i
 none_decided top (entry ∷ older) lit levels opened i =
     ⊎_elim (λ (t : nat_lt 0 entry.level ≡ true).
@@ -83,7 +83,7 @@ none_decided top (entry ∷ older) lit levels opened i =
     none_decided entry.level older lit levels.1 opened.1 (subst (λ (es : List Entry). In lit (decided_lits es)) (sym all) (subst (λ (ls : List Lit). In lit ls) (cond-false (is_decided entry.reason) (entry.lit ∷ decided_lits older) (decided_lits older) d) j))) (cases_Bool (is_decided entry.reason))) (cases_Bool (nat_lt 0 entry.level))
 
 -- a decision up to a level is one of a lower level, or its own
-decided_cases : (k top : ℕ) (entries : List Entry) (lit : Lit) → AreLevels top entries → AreOpened entries → In lit (decided_lits (back (suc k) entries)) → In lit (decided_lits (back k entries)) ⊎ (decision_in entries (suc k) ≡ Some lit)
+pub decided_cases : (k top : ℕ) (entries : List Entry) (lit : Lit) → AreLevels top entries → AreOpened entries → In lit (decided_lits (back (suc k) entries)) → In lit (decided_lits (back k entries)) ⊎ (decision_in entries (suc k) ≡ Some lit)
 decided_cases k top [] lit levels opened i = absurd i
 decided_cases k top (entry ∷ older) lit levels opened i =
     let here = (entry.level == suc k) && is_decided entry.reason in
