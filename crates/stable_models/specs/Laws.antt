@@ -83,7 +83,7 @@ SetsHaveBodies = (program : Ground) (n : ℕ) (T : Test) → BodiesAreAdded prog
 abbrev pub TemplatesAreSettled : Type 0
 TemplatesAreSettled = (program : Ground) (n : ℕ) → IsGround program → AreSettled (module_of program) n
 
--- their ends and open variables are apart from the heads of states so far
+-- a variable stands for one of their bodies; their ends and open variables are apart from the heads of states so far
 abbrev pub TemplatesAreApart : Type 0
 TemplatesAreApart = (program : Ground) (n : ℕ) → IsGround program → AreApart (module_of program) n
 
