@@ -14,3 +14,4 @@ pub mod TotalTrails
 pub mod Examples
 pub mod FoundTrails
 pub mod Gaps
+pub mod NoGaps

@@ -157,13 +157,13 @@ module _ (steps : ℕ → StepModule) (n : ℕ) (plain : Set) (entries : List En
       let s = source steps n r.0 rule head r.1 (modules.settled.each r.0 r.1) m is in
       let lits : body_lits rule ≡ lit_of s.def.var ∷ [] = ap (λ (o : Option ℕ). lits_by o rule.pos rule.neg) s.body in
       let there : In (lit_of s.def.var) (body_lits rule) = subst (λ (ls : List Lit). In (lit_of s.def.var) ls) (sym lits) (inl refl) in
-      let holds : values s.def.var ≡ true = true_by (spot_in entries s.def.var) (trail.total rule (lit_of s.def.var) i there) (none_found (is_false entries) (body_lits rule) (lit_of s.def.var) on there) in
+      let holds : values s.def.var ≡ true = true_by (spot_in entries s.def.var) (trail.total rule head (lit_of s.def.var) i is there) (none_found (is_false entries) (body_lits rule) (lit_of s.def.var) on there) in
       s.holds S ∙ (sym (same_body s.state s.within s.def s.inside) ∙ (sym (complete.bodies s.state s.within s.def s.inside) ∙ holds))) (λ (k : (node : NodeRule) × In node (steps r.0).nodes × ((lits : List Lit) × In lits (shape_bodies node.shape) × (node_rule node.var lits ≡ rule))).
       let lits : body_lits rule ≡ (map lit_of rule.pos ++ map no_lit rule.neg) = ap (λ (o : Option ℕ). lits_by o rule.pos rule.neg) (sym (ap (λ (x : NRule). x.body) k.2.2)) in
       let there : (lit : Lit) → In lit (map lit_of rule.pos ++ map no_lit rule.neg) → In lit (body_lits rule) = λ lit j. subst (λ (ls : List Lit). In lit ls) (sym lits) j in
       let pos : list_all values rule.pos ≡ true = list_all-from_In values rule.pos (λ v j.
       let in_body = there (lit_of v) (In-append_left (lit_of v) (map lit_of rule.pos) (map no_lit rule.neg) (In-map lit_of v rule.pos j)) in
-      true_by (spot_in entries v) (trail.total rule (lit_of v) i in_body) (none_found (is_false entries) (body_lits rule) (lit_of v) on in_body)) in
+      true_by (spot_in entries v) (trail.total rule head (lit_of v) i is in_body) (none_found (is_false entries) (body_lits rule) (lit_of v) on in_body)) in
       let neg : list_all (λ v. not (values v)) rule.neg ≡ true = list_all-from_In (λ v. not (values v)) rule.neg (λ v j.
       let in_body = there (no_lit v) (In-append_right (no_lit v) (map lit_of rule.pos) (map no_lit rule.neg) (In-map no_lit v rule.neg j)) in
       not_from_false (values v) (none_found (is_false entries) (body_lits rule) (no_lit v) on in_body)) in

@@ -1,6 +1,6 @@
 -- When the true variables of a trail are a stable set: they are a model of the rules, and none of them is unfounded (Van Gelder, Ross and Schlipf,
 -- 1991; Lin and Zhao, 2004).
-use Rattle.std.specs.Prelude.{◌≡◌, ℕ, suc, ◌-◌, ◌<◌, not, ◌&&◌, List, None, is_some, IsTrue, IsFalse, ◌⊎◌}
+use Rattle.std.specs.Prelude.{◌≡◌, ℕ, suc, ◌-◌, ◌<◌, not, ◌&&◌, List, Some, None, is_some, IsTrue, IsFalse, ◌⊎◌}
 use Rattle.std.specs.List.{find, list_all}
 use Rattle.tel_base.specs.declared.literals.Lit.{Lit}
 use Rattle.tel_base.specs.Members.{In}
@@ -59,11 +59,11 @@ pub record AreModules (steps : ℕ → StepModule) (n : ℕ) (plain : Set) : Typ
 abbrev pub true_set : Length → List Entry → Set
 true_set length entries v = in_program length v && is_true entries v
 
--- the trail makes the clauses of the modules and the end true, and gives each literal of which a body of a rule is made a value
+-- the trail makes the clauses of the modules and the end true, and gives each literal that stands for a body of a rule with a head a value
 pub record IsTotalTrail (steps : ℕ → StepModule) (n : ℕ) (entries : List Entry) : Type 0 where
   pub satisfies : SatisfiesClauses steps n (is_true entries)
   pub ended : IsTrue (is_true entries (steps (n - 1)).end)
-  pub total : (rule : NRule) (lit : Lit) → In rule (length_of steps n).ground.rules → In lit (body_lits rule) → IsTrue (is_some (value_in entries lit))
+  pub total : (rule : NRule) (head : ℕ) (lit : Lit) → In rule (length_of steps n).ground.rules → rule.head ≡ Some head → In lit (body_lits rule) → IsTrue (is_some (value_in entries lit))
 
 -- then its true variables are stable where no unfounded set holds one of them
 abbrev pub NoneIsStable : Type 0
