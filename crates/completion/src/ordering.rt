@@ -29,6 +29,21 @@ fn is_last(sorted: &[Lit], place: usize) -> bool
     rank(&sorted[place]) != rank(&sorted[place + 1])
 }
 
+/// Whether no literal stands twice, of literals whose places don't fall.
+fn are_apart(sorted: &[Lit]) -> bool
+    requires { IsNonDecreasingBy rank sorted.now }
+    ensures { result ≡ true → in_order sorted.now ≡ sorted.now }
+{
+    let mut place: usize = 0;
+    'reading: while place < sorted.len() {
+        if !is_last(sorted, place) {
+            return false;
+        }
+        place += 1;
+    }
+    true
+}
+
 /// Each literal once, of literals whose places don't fall.
 fn once(alloc: Global, sorted: &[Lit]) -> Result<Vec<Lit>, Memory>
     requires { IsNonDecreasingBy rank sorted.now }
@@ -64,6 +79,9 @@ fn in_order(alloc: Global, mut lits: Vec<Lit>) -> Result<Vec<Lit>, Memory>
     ensures { IfOk result (λ order. order.items ≡ in_order lits.items) }
 {
     lits.sort_unstable_by_key(rank);
+    if are_apart(lits.as_slice()) {
+        return Ok(lits);
+    }
     once(alloc, lits.as_slice())
 }
 
