@@ -132,7 +132,7 @@ member_range count (x ∷ xs) a h t =
     let both = and_parts (nat_lt x count) (list_all (λ atom. nat_lt atom count) xs) h in
     ⊎_elim (λ e. omega (arith, eqb-true x a e, ltb-true x count both.0)) (λ m. member_range count xs a both.1 m) (or_cases (x == a) (is_member xs a) t)
 
-test_range : (count : ℕ) (trace : List (List ℕ)) (k a : ℕ) → list_all (is_state count) trace ≡ true → test_of trace k a ≡ true → (k < length trace) × (a < count)
+pub test_range : (count : ℕ) (trace : List (List ℕ)) (k a : ℕ) → list_all (is_state count) trace ≡ true → test_of trace k a ≡ true → (k < length trace) × (a < count)
 test_range count [] k a h t = absurd (false≢true t)
 test_range count (state ∷ more) zero a h t =
     let both = and_parts (is_state count state) (list_all (is_state count) more) h in
@@ -141,18 +141,23 @@ test_range count (state ∷ more) (suc k) a h t =
     let w = test_range count more k a (and_parts (is_state count state) (list_all (is_state count) more) h).1 t in
     (omega (arith, w.0), w.1)
 
-apart_sets : (program : Ground) (n : ℕ) (first second : List (List ℕ)) → IsTrace n (length program.atoms) second → Precedes first second → ((v : ℕ) → full_of program n first v ≡ full_of program n second v) → ⊥
+-- the sets of two traces agree on the atoms
+abbrev pub AgreeOnAtoms : Ground → ℕ → List (List ℕ) → List (List ℕ) → Type 0
+AgreeOnAtoms program n first second =
+    (a k : ℕ) → a < length program.atoms → k < n → full_of program n first (visible (counts_of program) a k) ≡ full_of program n second (visible (counts_of program) a k)
+
+apart_sets : (program : Ground) (n : ℕ) (first second : List (List ℕ)) → IsTrace n (length program.atoms) second → Precedes first second → AgreeOnAtoms program n first second → ⊥
 apart_sets program n first second trace before same =
     let k = before.0 in
     let a = before.1 in
     let range = test_range (length program.atoms) second k a trace.1 before.2.is_true in
     let l : k < n = omega (arith, range.0, trace.0) in
     let v = visible (counts_of program) a k in
-    let there = same v ∙ atom_there program n (test_of second) (test_of second) a k v range.1 l refl before.2.is_true in
+    let there = same a k range.1 l ∙ atom_there program n (test_of second) (test_of second) a k v range.1 l refl before.2.is_true in
     false≢true (sym before.2.is_false ∙ there_atom program n (test_of first) (test_of first) a k v range.1 l refl there)
 
-pub sets_differ : (program : Ground) (n : ℕ) (trace other : List (List ℕ)) → IsGround program → Contains (list_of program n) trace → Contains (list_of program n) other → ((v : ℕ) → full_of program n trace v ≡ full_of program n other v) → trace ≡ other
-sets_differ program n trace other ground listed found same =
+pub atoms_differ : (program : Ground) (n : ℕ) (trace other : List (List ℕ)) → IsGround program → Contains (list_of program n) trace → Contains (list_of program n) other → AgreeOnAtoms program n trace other → trace ≡ other
+atoms_differ program n trace other ground listed found same =
     let traces = list_of program n in
     let rises = list_of-rises program n in
     let i = listed.0 in
@@ -160,4 +165,7 @@ sets_differ program n trace other ground listed found same =
     let is_other : get_or traces j trace ≡ other = get_same traces j trace other found.1 ∙ found.2 in
     ⊎_elim (λ (e : i ≡ j). sym listed.2 ∙ ap (λ (k : ℕ). get_or traces k trace) e ∙ is_other) (λ apart. ⊎_elim (λ (l : i < j).
     absurd (apart_sets program n trace other ((list_of-equilibria program n other ground).0 found).is_trace (subst (λ (t : List (List ℕ)). Precedes t other) listed.2 (subst (λ (t : List (List ℕ)). Precedes (get_or traces i trace) t) is_other (rises i j trace l found.1))) same)) (λ (l : j < i).
-    absurd (apart_sets program n other trace ((list_of-equilibria program n trace ground).0 listed).is_trace (subst (λ (t : List (List ℕ)). Precedes t trace) is_other (subst (λ (t : List (List ℕ)). Precedes (get_or traces j trace) t) listed.2 (rises j i trace l listed.1))) (λ v. sym (same v)))) apart) (cases_order i j)
+    absurd (apart_sets program n other trace ((list_of-equilibria program n trace ground).0 listed).is_trace (subst (λ (t : List (List ℕ)). Precedes t trace) is_other (subst (λ (t : List (List ℕ)). Precedes (get_or traces j trace) t) listed.2 (rises j i trace l listed.1))) (λ a k m o. sym (same a k m o)))) apart) (cases_order i j)
+
+pub sets_differ : (program : Ground) (n : ℕ) (trace other : List (List ℕ)) → IsGround program → Contains (list_of program n) trace → Contains (list_of program n) other → ((v : ℕ) → full_of program n trace v ≡ full_of program n other v) → trace ≡ other
+sets_differ program n trace other ground listed found same = atoms_differ program n trace other ground listed found (λ a k l m. same (visible (counts_of program) a k))
