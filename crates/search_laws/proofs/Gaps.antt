@@ -22,7 +22,7 @@ any_same p q [] h = refl
 any_same p q (x ∷ xs) h = λ i. h x (inl refl) i || any_same p q xs (λ y m. h y (inr m)) i
 
 -- a literal of a listed clause is one of it
-from_listed : (clause one : Clause) (lit : Lit) → In one (listed clause) → In lit one → In lit clause
+pub from_listed : (clause one : Clause) (lit : Lit) → In one (listed clause) → In lit one → In lit clause
 from_listed clause one lit m j =
     ⊎_elim (λ (t : has_both (in_order clause) ≡ true). absurd (subst (λ (cs : List Clause). In one cs) (cond-true (has_both (in_order clause)) [] (in_order clause ∷ []) t) m)) (λ (f : has_both (in_order clause) ≡ false).
     ⊎_elim (λ (e : in_order clause ≡ one). from_order lit clause (subst (λ (c : Clause). In lit c) (sym e) j)) (λ none. absurd none) (subst (λ (cs : List Clause). In one cs) (cond-false (has_both (in_order clause)) [] (in_order clause ∷ []) f) m)) (cases_Bool (has_both (in_order clause)))

@@ -15,3 +15,4 @@ pub mod Examples
 pub mod FoundTrails
 pub mod Gaps
 pub mod NoGaps
+pub mod AllValues

@@ -46,6 +46,8 @@ IsKnown steps n var = ((t : ℕ) × (t < n) × IsHead (steps t) var) ⊎ (((t : 
 pub record AreKnown (steps : ℕ → StepModule) (n : ℕ) : Type 0 where
   pub bodies : (t : ℕ) → t < n → (def : BodyDef) (lit : Lit) → In def (steps t).bodies → In lit def.lits → IsKnown steps n lit.var
   pub shapes : (t : ℕ) → t < n → (node : NodeRule) (lits : List Lit) (lit : Lit) → In node (steps t).nodes → In lits (shape_bodies node.shape) → In lit lits → IsKnown steps n lit.var
+  pub pairs : (t : ℕ) → t < n → (pair : ℕ × ℕ) → In pair (steps t).pairs → IsKnown steps n pair.0 × IsKnown steps n pair.1
+  pub opens : (t : ℕ) → t < n → (var : ℕ) → In var (steps t).open_vars → IsKnown steps n var
 
 -- the modules before n are as those of a program
 pub record AreModules (steps : ℕ → StepModule) (n : ℕ) (plain : Set) : Type 0 where

@@ -14,7 +14,9 @@ use Rattle.normal_program.specs.ModuleClauses.{no_lit, listed, shape_clauses, cl
 use Rattle.clause_store.specs.Closure.{Clause, Lits, IsClosedLevel}
 use Rattle.completion.specs.Completions.{IsHead}
 use Rattle.search_laws.specs.Lengths.{length_of}
-use Rattle.search_laws.specs.Founded.{AreModules}
+use Rattle.lit_trail.specs.declared.assignment.Entry.{Entry}
+use Rattle.lit_trail.specs.Sound.{holds}
+use Rattle.search_laws.specs.Founded.{AreModules, IsTotalTrail}
 
 -- X has a variable or its negation
 abbrev pub has_value : Lits → ℕ → Bool
@@ -59,3 +61,9 @@ abbrev pub NoGaps : Type 0
 NoGaps =
     (steps : ℕ → StepModule) (n : ℕ) (plain : Set) (rank : ℕ → ℕ) (clauses : List Clause) (X : Lits) → AreModules steps n plain → AreRanked steps n rank → IsBaseTotal steps n clauses X
     → ((t var : ℕ) → t < n → IsHead (steps t) var → IsTrue (has_value X var)) × ((t : ℕ) (def : BodyDef) → t < n → In def (steps t).bodies → IsTrue (has_value X def.var))
+
+-- so the trail is total where the end holds
+abbrev pub GapsAreTotal : Type 0
+GapsAreTotal =
+    (steps : ℕ → StepModule) (n : ℕ) (plain : Set) (rank : ℕ → ℕ) (clauses : List Clause) (entries : List Entry) → AreModules steps n plain → AreRanked steps n rank → IsBaseTotal steps n clauses (holds entries) → IsTrue (holds entries (lit_of (steps (n - 1)).end))
+    → IsTotalTrail steps n entries

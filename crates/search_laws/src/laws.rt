@@ -1,7 +1,7 @@
 //! Laws of the definitions: functions that do nothing, whose contracts are proved facts.
 
 ghost use Rattle.search_laws.specs.Founded.{FoundedIsStable, NoneIsStable, SomeIsUnstable, TrailIsFound, TrailIsUnstable, ClosedMakesTrue};
-ghost use Rattle.search_laws.specs.Gaps.{ShapeHasValue, NoGaps};
+ghost use Rattle.search_laws.specs.Gaps.{ShapeHasValue, NoGaps, GapsAreTotal};
 ghost use Rattle.search_laws.specs.Levels.{LevelsAreTotal, LevelsAreStuck};
 ghost use Rattle.search_laws.specs.Laws.{EndsAreApart, FoundIsOne, ValuesStand, FoundIsFinds, ModulesAreComposed, StableSetsAgree, ModulesAndLoopsAreRight, LearntAreRight, BlocksAreRight, KeptAreRight, FoundMeetsAll, NextIsNext, FoundInOrder, ClosedFoundAll};
 
@@ -59,4 +59,5 @@ pub fn found_trails()
     ensures closed { ClosedMakesTrue }
     ensures shapes { ShapeHasValue }
     ensures gaps { NoGaps }
+    ensures total { GapsAreTotal }
 {}

@@ -1,6 +1,7 @@
 use Rattle.search_laws.proofs.FoundTrails.{trail_is_found, trail_is_unstable, closed_makes_true}
 use Rattle.search_laws.proofs.Gaps.{shape_has_value}
 use Rattle.search_laws.proofs.NoGaps.{no_gaps}
+use Rattle.search_laws.proofs.AllValues.{gaps_are_total}
 use Rattle.search_laws.proofs.laws.found_trails.Goals as goal
 
 pub returns-clause-found : goal.returns-clause-found
@@ -17,3 +18,6 @@ returns-clause-shapes c = shape_has_value
 
 pub returns-clause-gaps : goal.returns-clause-gaps
 returns-clause-gaps c = no_gaps
+
+pub returns-clause-total : goal.returns-clause-total
+returns-clause-total c = gaps_are_total
