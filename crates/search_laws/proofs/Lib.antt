@@ -16,3 +16,4 @@ pub mod FoundTrails
 pub mod Gaps
 pub mod NoGaps
 pub mod AllValues
+pub mod TraceOrder

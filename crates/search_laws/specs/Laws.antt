@@ -12,7 +12,7 @@ use Rattle.normal_program.specs.Grounds.{is_head}
 use Rattle.normal_program.specs.StableSets.{Set, body_holds, lits_hold}
 use Rattle.completion.specs.Completions.{clause_true, AreSettled}
 use Rattle.completion.specs.Lengths.{IsStableOf, AreApart, ArePlain}
-use Rattle.search_laws.specs.Walks.{IsClosedWalk, Before, Agree, UpTo}
+use Rattle.search_laws.specs.Walks.{IsClosedWalk, Before, Agree, UpTo, FirstApart}
 use Rattle.search_laws.specs.Lengths.{Length, length_of, bodies_of, is_plain, IsStableAt, IsValued, Stands, with_bodies}
 use Rattle.search_laws.specs.Origins.{Kept, lits_of, Finds, IsBlock, Origin, Grown}
 use Rattle.search_laws.specs.Needed.{IsFound, Needed}
@@ -126,3 +126,9 @@ ClosedFoundAll =
 abbrev pub FoundIsFinds : Type 0
 FoundIsFinds =
     (length : Length) (clauses : List Clause) (decisions : List Lit) (S : Set) → ((var : ℕ) → In var length.visible → IsTrue (is_head length.ground.modules var)) → IsFound length clauses decisions S → Finds length clauses decisions S
+
+-- the order of sets is that of their traces: at the first state where they differ, the atoms say which comes first
+abbrev pub OrderOfTraces : Type 0
+OrderOfTraces =
+    (steps : ℕ → StepModule) (n : ℕ) (S R : Set) → Before (length_of steps n).visible S R
+    → (t : ℕ) × (t < n) × FirstApart (steps t).atoms S R × ((u : ℕ) → u < t → (v : ℕ) → In v (steps u).atoms → S v ≡ R v)

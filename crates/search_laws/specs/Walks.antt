@@ -1,7 +1,8 @@
 -- The walk (own): the decisions that a search makes which takes the variables in their order, each false first, and goes back on none.
-use Rattle.std.specs.Prelude.{◌≡◌, ℕ, true, false, List, [], ◌∷◌, ◌⊎◌}
+use Rattle.std.specs.Prelude.{◌≡◌, ℕ, true, false, List, [], ◌∷◌, ◌++◌, ◌⊎◌}
 use Rattle.tel_base.specs.declared.literals.Lit.{Lit}
 use Rattle.tel_base.specs.Literals.{lit_of}
+use Rattle.tel_base.specs.Members.{In}
 use Rattle.clause_store.specs.Closure.{Clause, Up, Conflict}
 use Rattle.normal_program.specs.ModuleClauses.{no_lit}
 use Rattle.normal_program.specs.StableSets.{Set}
@@ -51,3 +52,13 @@ Agree (v ∷ vars) S R = (S v ≡ R v) × Agree vars S R
 
 abbrev pub UpTo : List ℕ → Set → Set → Type 0
 UpTo vars S R = Agree vars S R ⊎ Before vars S R
+
+-- where they differ first: at a variable that is false in the first set and true in the second, while they agree on all variables in front
+pub record FirstApart (vars : List ℕ) (S R : Set) : Type 0 where
+  pub front : List ℕ
+  pub var : ℕ
+  pub back : List ℕ
+  pub whole : vars ≡ front ++ var ∷ back
+  pub is_false : S var ≡ false
+  pub is_true : R var ≡ true
+  pub same : (v : ℕ) → In v front → S v ≡ R v

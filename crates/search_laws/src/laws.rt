@@ -3,7 +3,7 @@
 ghost use Rattle.search_laws.specs.Founded.{FoundedIsStable, NoneIsStable, SomeIsUnstable, TrailIsFound, TrailIsUnstable, ClosedMakesTrue};
 ghost use Rattle.search_laws.specs.Gaps.{ShapeHasValue, NoGaps, GapsAreTotal};
 ghost use Rattle.search_laws.specs.Levels.{LevelsAreTotal, LevelsAreStuck};
-ghost use Rattle.search_laws.specs.Laws.{EndsAreApart, FoundIsOne, ValuesStand, FoundIsFinds, ModulesAreComposed, StableSetsAgree, ModulesAndLoopsAreRight, LearntAreRight, BlocksAreRight, KeptAreRight, FoundMeetsAll, NextIsNext, FoundInOrder, ClosedFoundAll};
+ghost use Rattle.search_laws.specs.Laws.{EndsAreApart, FoundIsOne, ValuesStand, FoundIsFinds, ModulesAreComposed, StableSetsAgree, ModulesAndLoopsAreRight, LearntAreRight, BlocksAreRight, KeptAreRight, FoundMeetsAll, NextIsNext, FoundInOrder, ClosedFoundAll, OrderOfTraces};
 
 /// A walk ends in one way alone: it is closed, or a further clause is needed, or it finds one stable
 /// set.
@@ -30,6 +30,7 @@ pub fn search_order()
     ensures next { NextIsNext }
     ensures order { FoundInOrder }
     ensures all { ClosedFoundAll }
+    ensures traces { OrderOfTraces }
 {}
 
 /// The levels of a trail on which the search has decided the end, and then always the first visible
