@@ -17,3 +17,4 @@ pub mod Gaps
 pub mod NoGaps
 pub mod AllValues
 pub mod TraceOrder
+pub mod Counting

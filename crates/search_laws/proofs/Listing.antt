@@ -15,7 +15,7 @@ use Rattle.search_laws.specs.Lengths.{Length, bodies_of, IsStableAt, Stands, wit
 use Rattle.search_laws.specs.Origins.{Kept, lits_of, Finds, IsBlock, OriginBy, Grown, added}
 use Rattle.search_laws.specs.Needed.{IsFound}
 use Rattle.search_laws.specs.Runs.{Run, begins, adds, blocks, InOrder}
-use Rattle.search_laws.specs.Laws.{AreComposed, all_true}
+use Rattle.search_laws.specs.Laws.{AreComposed, NeverIsRight, all_true}
 use Rattle.search_laws.proofs.Truths.{no_conflict}
 use Rattle.search_laws.proofs.Ends.{values_stand}
 use Rattle.search_laws.proofs.Along.{append_more, true_more, ending_true, seen_same, false_blocks, block_agrees, agree_from}
@@ -113,6 +113,11 @@ module _ (lengths : ℕ → Length) (n : ℕ) (laid : AreComposed lengths n) whe
         λ s i.
             ⊎_elim (λ l. rest.1 s l) (λ r. ⊎_elim (λ (e : set ≡ s). subst (λ (x : Set). IsStableAt (lengths n) x) e block.found.stable) (λ m. absurd m) r) (In-append_cases s past (set ∷ []) (subst (λ (ss : List Set). In s ss) more i)),
       )
+
+pub never_is_right : NeverIsRight
+never_is_right lengths n k held S laid grown l clash stable =
+    let values = with_bodies (bodies_of (lengths n)) S in
+    no_conflict values (lits_of held) [] (kept_are_right lengths n k held S values laid grown l (record { stable = stable; valued = values_stand (lengths n) S laid.one_body })) refl clash
 
 pub found_finds : (length : Length) (clauses : List Clause) (decisions : List Lit) (S : Set) → ((var : ℕ) → In var length.visible → is_head length.ground.modules var ≡ true) → IsFound length clauses decisions S → Finds length clauses decisions S
 found_finds length clauses decisions S heads found = record {

@@ -1,10 +1,10 @@
 -- The laws of the search.
-use Rattle.std.specs.Prelude.{◌≡◌, ℕ, ◌<◌, ◌≤◌, Bool, List, Some, None, IsTrue, IsFalse, ◌⊎◌}
+use Rattle.std.specs.Prelude.{◌≡◌, ℕ, ◌<◌, ◌≤◌, Bool, List, [], Some, None, IsTrue, IsFalse, ◌⊎◌}
 use Rattle.std.specs.List.{list_all}
 use Rattle.tel_base.specs.declared.literals.Lit.{Lit}
 use Rattle.tel_base.specs.Members.{In}
 use Rattle.clause_store.specs.declared.store.ClauseKind.TheVariants as kinds
-use Rattle.clause_store.specs.Closure.{Clause}
+use Rattle.clause_store.specs.Closure.{Clause, Conflict}
 use Rattle.normal_program.specs.declared.rules.NRule.{NRule}
 use Rattle.normal_program.specs.declared.modules.BodyDef.{BodyDef}
 use Rattle.normal_program.specs.declared.modules.StepModule.{StepModule}
@@ -95,6 +95,11 @@ BlocksAreRight =
 abbrev pub KeptAreRight : Type 0
 KeptAreRight =
     (lengths : ℕ → Length) (n k : ℕ) (held : List Kept) (S values : Set) → AreComposed lengths n → Grown lengths k held → k < n → Stands (lengths n) S values → IsTrue (all_true values (lits_of held))
+
+-- so where they conflict without any end, no later length has a stable set
+abbrev pub NeverIsRight : Type 0
+NeverIsRight =
+    (lengths : ℕ → Length) (n k : ℕ) (held : List Kept) (S : Set) → AreComposed lengths n → Grown lengths k held → k < n → Conflict (lits_of held) [] → IsStableAt (lengths n) S → ⊥
 
 -- a set that was found makes all held clauses true
 abbrev pub FoundMeetsAll : Type 0

@@ -7,3 +7,4 @@ pub mod Laws
 pub mod Levels
 pub mod Founded
 pub mod Gaps
+pub mod Counted

@@ -1,9 +1,10 @@
 //! Laws of the definitions: functions that do nothing, whose contracts are proved facts.
 
+ghost use Rattle.search_laws.specs.Counted.{AtMostCounted};
 ghost use Rattle.search_laws.specs.Founded.{FoundedIsStable, NoneIsStable, SomeIsUnstable, TrailIsFound, TrailIsUnstable, ClosedMakesTrue};
 ghost use Rattle.search_laws.specs.Gaps.{ShapeHasValue, NoGaps, GapsAreTotal};
 ghost use Rattle.search_laws.specs.Levels.{LevelsAreTotal, LevelsAreStuck};
-ghost use Rattle.search_laws.specs.Laws.{EndsAreApart, FoundIsOne, ValuesStand, FoundIsFinds, ModulesAreComposed, StableSetsAgree, ModulesAndLoopsAreRight, LearntAreRight, BlocksAreRight, KeptAreRight, FoundMeetsAll, NextIsNext, FoundInOrder, ClosedFoundAll, OrderOfTraces};
+ghost use Rattle.search_laws.specs.Laws.{EndsAreApart, FoundIsOne, ValuesStand, FoundIsFinds, ModulesAreComposed, StableSetsAgree, ModulesAndLoopsAreRight, LearntAreRight, BlocksAreRight, KeptAreRight, NeverIsRight, FoundMeetsAll, NextIsNext, FoundInOrder, ClosedFoundAll, OrderOfTraces};
 
 /// A walk ends in one way alone: it is closed, or a further clause is needed, or it finds one stable
 /// set.
@@ -21,6 +22,7 @@ pub fn kept_clauses()
     ensures learnt { LearntAreRight }
     ensures blocks { BlocksAreRight }
     ensures later { KeptAreRight }
+    ensures never { NeverIsRight }
     ensures found { FoundMeetsAll }
 {}
 
@@ -61,4 +63,9 @@ pub fn found_trails()
     ensures shapes { ShapeHasValue }
     ensures gaps { NoGaps }
     ensures total { GapsAreTotal }
+{}
+
+/// Over v variables at most 3^v clauses come that those before them don't absorb.
+pub fn counted_clauses()
+    ensures { AtMostCounted }
 {}

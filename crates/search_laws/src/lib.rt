@@ -5,6 +5,6 @@
 mod laws;
 
 pub use laws::{
-    composed_lengths, found_trails, founded_trails, kept_clauses, search_order, walk_ends,
-    walk_levels,
+    composed_lengths, counted_clauses, found_trails, founded_trails, kept_clauses, search_order,
+    walk_ends, walk_levels,
 };

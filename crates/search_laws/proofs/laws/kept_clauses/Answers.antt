@@ -1,4 +1,5 @@
 use Rattle.search_laws.proofs.Ordered.{own, blocks_are_right, learnt_are_right, kept_are_right, modules_and_loops}
+use Rattle.search_laws.proofs.Listing.{never_is_right}
 use Rattle.search_laws.proofs.laws.kept_clauses.Goals as goal
 
 pub returns-clause-always : goal.returns-clause-always
@@ -15,3 +16,6 @@ returns-clause-later c = kept_are_right
 
 pub returns-clause-found : goal.returns-clause-found
 returns-clause-found c = λ lengths n held decisions S values laid grown stands finds. own lengths n laid held decisions S values grown stands finds.total finds.set
+
+pub returns-clause-never : goal.returns-clause-never
+returns-clause-never c = never_is_right
