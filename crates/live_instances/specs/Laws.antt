@@ -1,20 +1,23 @@
 -- Laws of bindings.
-use Rattle.std.specs.Prelude.{◌≡◌, ◌↔◌, ℕ, List, Option, IsTrue}
+use Rattle.std.specs.Prelude.{◌≡◌, ◌↔◌, ℕ, List, length, Option, Some, IsTrue}
 use Rattle.std.specs.Cmp.{IsTotalOrder}
 use Rattle.std.specs.declared.cmp.Ordering.TheVariants.{Equal}
 use Rattle.tel_term.specs.declared.terms.Term.{Term}
 use Rattle.tel_term.specs.declared.terms.Value.{Value}
 use Rattle.tel_term.specs.declared.arithmetic.EvalFault.{EvalFault}
+use Rattle.tel_term.specs.declared.arithmetic.EvalFault.TheVariants.{Range}
 use Rattle.tel_term.specs.declared.exprs.Expr.{Expr}
 use Rattle.tel_term.specs.Symbols.{IsTable}
 use Rattle.tel_rule.specs.declared.formulas.Atom.{Atom}
 use Rattle.tel_rule.specs.declared.statements.Head.{Head}
 use Rattle.tel_rule.specs.declared.statements.Literal.{Literal}
 use Rattle.tel_rule.specs.declared.statements.Statement.{Statement}
-use Rattle.rule_binding.specs.Binding.{Setting}
+use Rattle.tel_rule.specs.declared.statements.Kind.TheVariants as kinds
+use Rattle.tel_semantics.specs.Tables.{is_table}
+use Rattle.rule_binding.specs.Binding.{Setting, SettingsOf}
 use Rattle.live_instances.specs.Bindings.{is_binding, binding_cmp}
 use Rattle.live_instances.specs.Instances.{AreLive}
-use Rattle.live_instances.specs.Reached.{HasOutcome}
+use Rattle.live_instances.specs.Reached.{HasOutcome, IsReached, LeavesRange}
 
 abbrev pub BindingsAreOrdered : Type 0
 BindingsAreOrdered = (symbols : List Term) → IsTotalOrder (binding_cmp symbols)
@@ -36,3 +39,11 @@ abbrev pub OutcomesAreOne : Type 0
 OutcomesAreOne =
     (statements : List Statement) (atoms : List Atom) (exprs : List Expr) (binding : List Value) (settings : List Setting) (a b : Option EvalFault)
     → HasOutcome statements atoms exprs binding settings a → HasOutcome statements atoms exprs binding settings b → a ≡ b
+
+-- a rule leaves the range exactly where the first fault of some binding does that is reached by its setting equations
+abbrev pub RulesLeaveRange : Type 0
+RulesLeaveRange =
+    (statements : List Statement) (symbols : List Term) (statement : Statement) (head : Head) (body : List Literal) (settings : List Setting)
+    → statement.kind ≡ kinds.Rule head body → SettingsOf (is_table statements) statement settings
+    → LeavesRange statements symbols statement
+    ↔ ((binding : List Value) × IsTrue (is_binding symbols (length statement.vars) binding) × IsReached statements head body settings binding (Some Range))
