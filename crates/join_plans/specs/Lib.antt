@@ -1,0 +1,5 @@
+pub mod Atoms
+pub mod Count
+pub mod Faults
+pub mod Join
+pub mod Once
