@@ -1,10 +1,11 @@
 -- Things that are read where they stand, and what is read elsewhere.
+use Rattle.formula_syntax.specs.declared.marks.Mark.TheVariants as marks
 use Rattle.std.proofs.Common.{◌≡◌, ℕ, zero, suc, Bool, true, false, Option, Some, None, refl, sym, ap, ◌∙◌, inl, inr}
 use Rattle.std.proofs.lemmas.Bool.{cases_Bool}
 use Rattle.tel_term.specs.declared.exprs.Expr.{Expr}
 use Rattle.formula_syntax.specs.Points.{Word, Point, begins}
 use Rattle.formula_syntax.specs.Steps.{Read, Got, Reader, map_read, one, either, maybe, too_deep, passes}
-use Rattle.formula_syntax.specs.Grammar.{leaf, minus}
+use Rattle.formula_syntax.specs.Grammar.{leaf, sign}
 use Rattle.formula_syntax.specs.Reading.{read_value, read_expr, read_negative, read_bracketed, opens_value}
 use Rattle.formula_syntax.proofs.Readers.{map-got, either-got}
 
@@ -37,7 +38,7 @@ maybe_none {A = A} test read second from to is =
 -- ---- values
 
 abbrev nested : ℕ → Reader Expr
-nested levels = either (passes minus) (read_negative (read_value levels)) (read_bracketed (read_expr levels))
+nested levels = either (passes (sign marks.Minus)) (read_negative (read_value levels)) (read_bracketed (read_expr levels))
 
 value_zero : (from : Point) → read_value zero from ≡ either (passes leaf) (one leaf) (too_deep opens_value) from
 unfolding read_value

@@ -1,4 +1,5 @@
 -- What the code's values stand for, and what a method of `Reading` ensures.
+use Rattle.formula_syntax.specs.declared.marks.Mark.TheVariants as marks
 use Rattle.std.specs.Prelude.{◌≡◌, ◌≢◌, ℕ, ◌+◌, ◌^◌, ◌<◌, ◌≤◌, Bool, true, false, List, [], ◌∷◌, ◌++◌, length, Option, Some, None, Result, Ok, Err, ◌-◌, ◌||◌, is_some, drop}
 use Rattle.std.specs.Option.{option_map}
 use Rattle.std.specs.Borrow.{Bor}
@@ -16,21 +17,17 @@ use Rattle.formula_syntax.specs.Points.{Word, Known, Point, at, words_of, begins
 use Rattle.tel_lex.specs.declared.token.Token.{Token}
 use Rattle.formula_syntax.specs.declared.fault.FormulaFault.{FormulaFault}
 use Rattle.formula_syntax.specs.declared.fault.FormulaFault.TheVariants as faults
-use Rattle.formula_syntax.specs.Senses.{Sense, Name, Not, Variable, Blank, Number, Str, Program, Const, Show, Sign, Other, inner_of, sense}
+use Rattle.formula_syntax.specs.Senses.{Sense, Name, Variable, Blank, Number, Str, Sign, Other, inner_of, sense}
 use Rattle.formula_syntax.specs.Steps.{Why, Unexpected, Deep, Read, Got, Stuck, Reader, made, one, both, at_most, passes}
-use Rattle.formula_syntax.specs.Grammar.{SignRead, args_of, opening, closing, comma, is_ampersand, is_minus, is_prime, name_of}
+use Rattle.formula_syntax.specs.Grammar.{SignRead, args_of, name_of, sign, is_sign}
 
 -- what a token says, without where its bytes lie
 abbrev pub said : declared.Sense → Sense
 said (senses.Name text) = Name text.now
-said senses.Not = Not
 said (senses.Variable name) = Variable name.now
 said senses.Blank = Blank
 said (senses.Number text) = Number text.now
 said (senses.Str text) = Str text.now
-said senses.Program = Program
-said senses.Const = Const
-said senses.Show = Show
 said (senses.Sign mark) = Sign mark
 said senses.Other = Other
 
@@ -122,11 +119,11 @@ ReadsSign outcome (Err stop) new = stop ≢ stops.Memory → outcome ≡ Stuck (
 
 -- the arguments of an atom, at most so many behind the first one
 abbrev pub args_read : ℕ → Reader Expr → Reader (List Expr)
-args_read most read = made args_of (both (one opening) (both read (both (at_most most (passes comma) (both (one comma) read)) (one closing))))
+args_read most read = made args_of (both (one (sign marks.Open)) (both read (both (at_most most (passes (sign marks.Comma)) (both (one (sign marks.Comma)) read)) (one (sign marks.Close)))))
 
 -- what a constant or an atom begins with
 abbrev pub starts_flat : Sense → Bool
-starts_flat said = is_ampersand said || (is_minus said || (is_prime said || is_some (name_of said)))
+starts_flat said = is_sign marks.Ampersand said || (is_sign marks.Minus said || (is_sign marks.Prime said || is_some (name_of said)))
 
 -- the point before the token at this place
 abbrev pub point_at : Names → List Token → ℕ → Point

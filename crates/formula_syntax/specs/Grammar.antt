@@ -1,5 +1,5 @@
 -- The grammar of expressions, atoms and temporal formulas.
-use Rattle.std.specs.Prelude.{ℕ, zero, suc, Bool, true, false, List, [], ◌∷◌, ◌++◌, length, Option, Some, None, pos, if◌then◌else◌, codes}
+use Rattle.std.specs.Prelude.{ℕ, zero, suc, Bool, true, false, List, [], ◌∷◌, ◌++◌, ◌==◌, length, Option, Some, None, pos, if◌then◌else◌, codes}
 use Rattle.std.specs.Option.{option_map}
 use Rattle.std.specs.Str.{bytes_eq}
 use Rattle.tel_term.specs.declared.terms.Term.{Term}
@@ -23,6 +23,7 @@ use Rattle.tel_rule.specs.declared.formulas.ManyOp.{ManyOp}
 use Rattle.tel_rule.specs.declared.formulas.ManyOp.TheVariants as manies
 use Rattle.tel_rule.specs.declared.formulas.Formula.{Formula}
 use Rattle.tel_rule.specs.declared.formulas.Formula.TheVariants as formulas
+use Rattle.formula_syntax.specs.declared.marks.Mark.{Mark}
 use Rattle.formula_syntax.specs.declared.marks.Mark.TheVariants as marks
 use Rattle.formula_syntax.specs.Points.{Word, Known}
 use Rattle.formula_syntax.specs.Senses.{Sense, Name, Variable, Blank, Number, Str, Sign, sense, number_of, string_of}
@@ -39,54 +40,55 @@ abbrev pub plain : Bool → Option (Known → Unit {0} × Known)
 plain true = Some (λ known. (tt, known))
 plain false = None
 
-abbrev pub is_minus : Sense → Bool
-is_minus (Sign marks.Minus) = true
-is_minus said = false
+-- signs are told apart by a number for each
+abbrev pub mark_number : Mark → ℕ
+mark_number marks.If = 0
+mark_number marks.Dots = 1
+mark_number marks.Stop = 2
+mark_number marks.Comma = 3
+mark_number marks.Semicolon = 4
+mark_number marks.Open = 5
+mark_number marks.Close = 6
+mark_number marks.OpenBrace = 7
+mark_number marks.CloseBrace = 8
+mark_number marks.Prime = 9
+mark_number marks.Tilde = 10
+mark_number marks.Ampersand = 11
+mark_number marks.Bar = 12
+mark_number marks.RightArrow = 13
+mark_number marks.LeftArrow = 14
+mark_number marks.BothArrow = 15
+mark_number marks.LessStar = 16
+mark_number marks.LessQuery = 17
+mark_number marks.LessColon = 18
+mark_number marks.LessLess = 19
+mark_number marks.LessEqual = 20
+mark_number marks.Less = 21
+mark_number marks.GreaterStar = 22
+mark_number marks.GreaterQuery = 23
+mark_number marks.GreaterColon = 24
+mark_number marks.GreaterGreater = 25
+mark_number marks.GreaterEqual = 26
+mark_number marks.Greater = 27
+mark_number marks.Equal = 28
+mark_number marks.Unequal = 29
+mark_number marks.Plus = 30
+mark_number marks.Minus = 31
+mark_number marks.Star = 32
+mark_number marks.Slash = 33
+mark_number marks.Backslash = 34
+mark_number marks.Not = 35
+mark_number marks.Program = 36
+mark_number marks.Const = 37
+mark_number marks.Show = 38
 
-abbrev pub minus : Word → Option (Known → Unit {0} × Known)
-minus word = plain (is_minus (sense word))
+abbrev pub is_sign : Mark → Sense → Bool
+is_sign mark (Sign found) = mark_number found == mark_number mark
+is_sign mark said = false
 
-abbrev pub is_open : Sense → Bool
-is_open (Sign marks.Open) = true
-is_open said = false
-
-abbrev pub opening : Word → Option (Known → Unit {0} × Known)
-opening word = plain (is_open (sense word))
-
-abbrev pub is_close : Sense → Bool
-is_close (Sign marks.Close) = true
-is_close said = false
-
-abbrev pub closing : Word → Option (Known → Unit {0} × Known)
-closing word = plain (is_close (sense word))
-
-abbrev pub is_comma : Sense → Bool
-is_comma (Sign marks.Comma) = true
-is_comma said = false
-
-abbrev pub comma : Word → Option (Known → Unit {0} × Known)
-comma word = plain (is_comma (sense word))
-
-abbrev pub is_prime : Sense → Bool
-is_prime (Sign marks.Prime) = true
-is_prime said = false
-
-abbrev pub prime : Word → Option (Known → Unit {0} × Known)
-prime word = plain (is_prime (sense word))
-
-abbrev pub is_ampersand : Sense → Bool
-is_ampersand (Sign marks.Ampersand) = true
-is_ampersand said = false
-
-abbrev pub ampersand : Word → Option (Known → Unit {0} × Known)
-ampersand word = plain (is_ampersand (sense word))
-
-abbrev pub is_bar : Sense → Bool
-is_bar (Sign marks.Bar) = true
-is_bar said = false
-
-abbrev pub bar : Word → Option (Known → Unit {0} × Known)
-bar word = plain (is_bar (sense word))
+-- this sign
+abbrev pub sign : Mark → Word → Option (Known → Unit {0} × Known)
+sign mark word = plain (is_sign mark (sense word))
 
 -- ---- expressions
 
@@ -160,7 +162,7 @@ negative_of pair = exprs.Minus pair.1
 
 -- a word, a thing and a word
 abbrev pub Bracketed : {A : Type 0} → Grammar A → Grammar A
-Bracketed F = Made between (Then (One opening) (Then F (One closing)))
+Bracketed F = Made between (Then (One (sign marks.Open)) (Then F (One (sign marks.Close))))
 
 -- product = value { ("*" | "/" | "\\") value }
 abbrev pub ProductOf : Grammar Expr → Grammar Expr
@@ -173,7 +175,7 @@ SumOf F = Made sum_of (Then F (Each (Then (One sum_op) F)))
 -- value = number | name | string | variable | "_" | "-" value | "(" expr ")", where the last two open a level
 unfoldable pub IsValue : ℕ → Grammar Expr
 IsValue zero = One leaf
-IsValue (suc levels) = Either (One leaf) (Either (Made negative_of (Then (One minus) (IsValue levels))) (Bracketed (SumOf (ProductOf (IsValue levels)))))
+IsValue (suc levels) = Either (One leaf) (Either (Made negative_of (Then (One (sign marks.Minus)) (IsValue levels))) (Bracketed (SumOf (ProductOf (IsValue levels)))))
 
 -- expr = sum, where at most so many levels are open at once
 abbrev pub IsExpr : ℕ → Grammar Expr
@@ -201,7 +203,7 @@ args_of read = read.1.0 ∷ behind_all read.1.1.0
 
 -- "(" expr { "," expr } ")", with at most eight expressions
 abbrev pub ArgsOf : Grammar Expr → Grammar (List Expr)
-ArgsOf F = Made args_of (Then (One opening) (Then F (Then (AtMost further_arguments (Then (One comma) F)) (One closing))))
+ArgsOf F = Made args_of (Then (One (sign marks.Open)) (Then F (Then (AtMost further_arguments (Then (One (sign marks.Comma)) F)) (One (sign marks.Close)))))
 
 abbrev pub is_there : {A : Type 0} → Option A → Bool
 is_there None = false
@@ -221,7 +223,7 @@ SignRead = Option (Unit {0}) × (Option (Unit {0}) × (List ℕ × Option (Unit 
 
 -- sign = [ "-" ] [ "'" ] name [ "'" ]
 abbrev pub IsSign : Grammar SignRead
-IsSign = Then (Maybe (One minus)) (Then (Maybe (One prime)) (Then (One name) (Maybe (One prime))))
+IsSign = Then (Maybe (One (sign marks.Minus))) (Then (Maybe (One (sign marks.Prime))) (Then (One name) (Maybe (One (sign marks.Prime)))))
 
 abbrev pub atom_of : SignRead × Option (List Expr) → Atom
 atom_of (sign, args) = record {
@@ -296,7 +298,7 @@ constant_of pair = formulas.Const pair.1
 
 -- constant = "&" ("true" | "false" | "initial" | "final")
 abbrev pub IsConstant : Grammar Formula
-IsConstant = Made constant_of (Then (One ampersand) (One const_op))
+IsConstant = Made constant_of (Then (One (sign marks.Ampersand)) (One const_op))
 
 abbrev pub prefixed : UnaryOp × Formula → Formula
 prefixed pair = formulas.Unary pair.0 pair.1
@@ -316,11 +318,11 @@ many_of op (first, next ∷ more) = formulas.Many op (first ∷ behind_all (next
 
 -- and = pair { "&" pair }
 abbrev pub AndOf : Grammar Formula → Grammar Formula
-AndOf F = Made (many_of manies.And) (Then F (Each (Then (One ampersand) F)))
+AndOf F = Made (many_of manies.And) (Then F (Each (Then (One (sign marks.Ampersand)) F)))
 
 -- or = and { "|" and }
 abbrev pub OrOf : Grammar Formula → Grammar Formula
-OrOf F = Made (many_of manies.Or) (Then F (Each (Then (One bar) F)))
+OrOf F = Made (many_of manies.Or) (Then F (Each (Then (One (sign marks.Bar)) F)))
 
 -- formula = or [ ("->" | "<-" | "<>") or ]
 abbrev pub ArrowOf : Grammar Formula → Grammar Formula

@@ -9,18 +9,14 @@ use Rattle.formula_syntax.specs.declared.marks.Mark.{Mark}
 use Rattle.formula_syntax.specs.declared.marks.Mark.TheVariants as marks
 use Rattle.formula_syntax.specs.Points.{Word}
 
--- A name, but for `not`, which is a word of its own; a variable, by its name; a number and a string, by how they are written; a
--- directive; a sign; and whatever is none of the language.
+-- A name, but for `not`; a variable, by its name; a number and a string, by how they are written; a sign, which `not` and the
+-- directives are too; and whatever is none of the language.
 pub data Sense : Type 0 where
   Name : List ℕ → Sense
-  Not : Sense
   Variable : List ℕ → Sense
   Blank : Sense
   Number : List ℕ → Sense
   Str : List ℕ → Sense
-  Program : Sense
-  Const : Sense
-  Show : Sense
   Sign : Mark → Sense
   Other : Sense
 
@@ -80,13 +76,13 @@ sign_sense (Some mark) = Sign mark
 -- what the word behind `#` says
 abbrev pub directive_sense : List ℕ → Sense
 directive_sense text =
-    if bytes_eq text (codes "#program") then Program
-    else (if bytes_eq text (codes "#const") then Const
-    else (if bytes_eq text (codes "#show") then Show else Other))
+    if bytes_eq text (codes "#program") then Sign marks.Program
+    else (if bytes_eq text (codes "#const") then Sign marks.Const
+    else (if bytes_eq text (codes "#show") then Sign marks.Show else Other))
 
 -- what a token of this kind and these bytes says
 abbrev pub sense_of : TokenKind → List ℕ → Sense
-sense_of kinds.Name text = if bytes_eq text (codes "not") then Not else Name text
+sense_of kinds.Name text = if bytes_eq text (codes "not") then Sign marks.Not else Name text
 sense_of kinds.Variable text = Variable text
 sense_of kinds.Blank text = Blank
 sense_of kinds.Number text = Number text

@@ -4,6 +4,7 @@ ghost use Rattle.formula_syntax.specs.Grammar as grammar;
 ghost use Rattle.formula_syntax.specs.Reading as readers;
 ghost use Rattle.formula_syntax.specs.Given.{Reads, ReadsSign, Onward, found, sign_of, args_read};
 
+use crate::marks::Mark;
 use crate::reading::{Reading, Stop};
 use sqlite_items::Items;
 use tel_base::Text;
@@ -36,11 +37,11 @@ impl<'t, 'b> Reading<'t, 'b> {
         ensures reads { ReadsSign (readers.read_sign self.old) result self.new }
         ensures onward { Onward self.old self.new }
     {
-        let negative = self.minus();
-        let before = self.prime();
+        let negative = self.take(Mark::Minus);
+        let before = self.take(Mark::Prime);
         match self.name() {
             Some(name) => {
-                let after = self.prime();
+                let after = self.take(Mark::Prime);
                 Ok(Signed {
                     negative,
                     before,
@@ -60,11 +61,11 @@ impl<'t, 'b> Reading<'t, 'b> {
         mut args: Items<Expr>,
     ) -> Result<Items<Expr>, Stop>
         ensures reads { Reads (made (λ more. args ++ grammar.behind_all more)
-            (at_most most (passes grammar.comma) (both (one grammar.comma) (readers.read_expr levels))) self.old) result self.new }
+            (at_most most (passes (grammar.sign Mark.Comma)) (both (one (grammar.sign Mark.Comma)) (readers.read_expr levels))) self.old) result self.new }
         ensures onward { Onward self.old self.new }
     {
         for _turn in 0..most {
-            if !self.comma() {
+            if !self.take(Mark::Comma) {
                 return Ok(args);
             }
             let arg = self.expr(levels)?;
@@ -75,17 +76,17 @@ impl<'t, 'b> Reading<'t, 'b> {
 
     /// The arguments of an atom, if there are any.
     fn args(&mut self, levels: u32, most: usize) -> Result<Items<Expr>, Stop>
-        ensures reads { Reads (made grammar.args_or_none (maybe (passes grammar.opening) (args_read most (readers.read_expr levels))) self.old) result self.new }
+        ensures reads { Reads (made grammar.args_or_none (maybe (passes (grammar.sign Mark.Open)) (args_read most (readers.read_expr levels))) self.old) result self.new }
         ensures onward { Onward self.old self.new }
     {
         let mut args = Items::new(self.alloc);
-        if !self.opening() {
+        if !self.take(Mark::Open) {
             return Ok(args);
         }
         let first = self.expr(levels)?;
         args.push(first)?;
         let all = self.further_args(levels, most, args)?;
-        self.close()?;
+        self.expect(Mark::Close)?;
         Ok(all)
     }
 

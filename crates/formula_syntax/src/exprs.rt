@@ -5,6 +5,7 @@ ghost use Rattle.formula_syntax.specs.Grammar as grammar;
 ghost use Rattle.formula_syntax.specs.Reading as readers;
 ghost use Rattle.formula_syntax.specs.Given.{Reads, Onward, why_of};
 
+use crate::marks::Mark;
 use crate::reading::{Reading, Stop};
 use sqlite_items::{Boxed, Items};
 use std::alloc::{AllocError, Global};
@@ -67,11 +68,11 @@ impl<'t, 'b> Reading<'t, 'b> {
     /// A value that opens a level, in which at most so many more may be opened.
     #[cycle(expr)]
     fn nested_value(&mut self, levels: u32) -> Result<Expr, Stop>
-        ensures reads { Reads (either (passes grammar.minus) (readers.read_negative (readers.read_value levels))
+        ensures reads { Reads (either (passes (grammar.sign Mark.Minus)) (readers.read_negative (readers.read_value levels))
             (readers.read_bracketed (readers.read_expr levels)) self.old) result self.new }
         ensures onward { Onward self.old self.new }
     {
-        if self.minus() {
+        if self.take(Mark::Minus) {
             let operand = self.value(levels)?;
             return Ok(Expr::Minus(Boxed::new(self.alloc, operand)?));
         }
@@ -84,11 +85,11 @@ impl<'t, 'b> Reading<'t, 'b> {
         ensures reads { Reads (readers.read_bracketed (readers.read_expr levels) self.old) result self.new }
         ensures onward { Onward self.old self.new }
     {
-        if !self.opening() {
+        if !self.take(Mark::Open) {
             return Err(Stop::Unexpected);
         }
         let inner = self.expr(levels)?;
-        self.close()?;
+        self.expect(Mark::Close)?;
         Ok(inner)
     }
 

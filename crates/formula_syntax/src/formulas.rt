@@ -6,6 +6,7 @@ ghost use Rattle.formula_syntax.specs.Grammar as grammar;
 ghost use Rattle.formula_syntax.specs.Reading as readers;
 ghost use Rattle.formula_syntax.specs.Given.{Reads, Onward, why_of};
 
+use crate::marks::Mark;
 use crate::reading::{Reading, Stop};
 use sqlite_items::{Boxed, Items};
 use std::alloc::{AllocError, Global};
@@ -32,7 +33,7 @@ impl<'t, 'b> Reading<'t, 'b> {
         ensures reads { Reads (readers.read_flat levels self.old) result self.new }
         ensures onward { Onward self.old self.new }
     {
-        if !self.ampersand() {
+        if !self.take(Mark::Ampersand) {
             let atom = self.atom(levels)?;
             return Ok(Formula::Atom(atom));
         }
@@ -91,11 +92,11 @@ impl<'t, 'b> Reading<'t, 'b> {
         ensures reads { Reads (readers.read_bracketed (readers.read_formula levels) self.old) result self.new }
         ensures onward { Onward self.old self.new }
     {
-        if !self.opening() {
+        if !self.take(Mark::Open) {
             return Err(Stop::Unexpected);
         }
         let inner = self.formula(levels)?;
-        self.close()?;
+        self.expect(Mark::Close)?;
         Ok(inner)
     }
 
@@ -119,11 +120,11 @@ impl<'t, 'b> Reading<'t, 'b> {
     #[cycle(formula)]
     fn conjuncts(&mut self, levels: u32, mut all: Items<Formula>) -> Result<Items<Formula>, Stop>
         ensures reads { Reads (made (λ more. all ++ grammar.behind_all more)
-            (each (passes grammar.ampersand) (both (one grammar.ampersand) (readers.read_pair (readers.read_unary levels)))) self.old) result self.new }
+            (each (passes (grammar.sign Mark.Ampersand)) (both (one (grammar.sign Mark.Ampersand)) (readers.read_pair (readers.read_unary levels)))) self.old) result self.new }
         ensures onward { Onward self.old self.new }
     {
         for _turn in 0..self.left() {
-            if !self.ampersand() {
+            if !self.take(Mark::Ampersand) {
                 return Ok(all);
             }
             let conjunct = self.pair(levels)?;
@@ -139,7 +140,7 @@ impl<'t, 'b> Reading<'t, 'b> {
         ensures onward { Onward self.old self.new }
     {
         let first = self.pair(levels)?;
-        if !self.sees_ampersand() {
+        if !self.sees(Mark::Ampersand) {
             return Ok(first);
         }
         let mut all = Items::new(self.alloc);
@@ -152,11 +153,11 @@ impl<'t, 'b> Reading<'t, 'b> {
     #[cycle(formula)]
     fn disjuncts(&mut self, levels: u32, mut all: Items<Formula>) -> Result<Items<Formula>, Stop>
         ensures reads { Reads (made (λ more. all ++ grammar.behind_all more)
-            (each (passes grammar.bar) (both (one grammar.bar) (readers.read_and (readers.read_pair (readers.read_unary levels))))) self.old) result self.new }
+            (each (passes (grammar.sign Mark.Bar)) (both (one (grammar.sign Mark.Bar)) (readers.read_and (readers.read_pair (readers.read_unary levels))))) self.old) result self.new }
         ensures onward { Onward self.old self.new }
     {
         for _turn in 0..self.left() {
-            if !self.bar() {
+            if !self.take(Mark::Bar) {
                 return Ok(all);
             }
             let disjunct = self.conjunction(levels)?;
@@ -172,7 +173,7 @@ impl<'t, 'b> Reading<'t, 'b> {
         ensures onward { Onward self.old self.new }
     {
         let first = self.conjunction(levels)?;
-        if !self.sees_bar() {
+        if !self.sees(Mark::Bar) {
             return Ok(first);
         }
         let mut all = Items::new(self.alloc);

@@ -1,4 +1,4 @@
-/// The signs of the language.
+/// The signs of the language, and the words that stand for nothing but themselves.
 #[derive(Clone, Copy, Debug, PartialEq, Eq)]
 pub enum Mark {
     /// `:-`
@@ -71,4 +71,12 @@ pub enum Mark {
     Slash,
     /// `\`
     Backslash,
+    /// `not`
+    Not,
+    /// `#program`
+    Program,
+    /// `#const`
+    Const,
+    /// `#show`
+    Show,
 }

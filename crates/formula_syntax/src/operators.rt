@@ -198,6 +198,6 @@ impl<'t, 'b> Reading<'t, 'b> {
     pub fn opens_unary(&self) -> bool
         ensures { result ≡ begins readers.opens_unary self.now.words }
     {
-        prefix_of(self.peek()).is_some() || self.sees_opening()
+        prefix_of(self.peek()).is_some() || self.sees(Mark::Open)
     }
 }

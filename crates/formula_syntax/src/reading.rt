@@ -48,46 +48,13 @@ impl From<Memory> for Stop {
     }
 }
 
-fn is_minus(next: Option<Sense>) -> bool
-    ensures { result ≡ seen_is grammar.is_minus (option_map said next.entry) }
+fn is_sign(next: Option<Sense>, mark: Mark) -> bool
+    ensures { result ≡ seen_is (grammar.is_sign mark) (option_map said next.entry) }
 {
-    matches!(next, Some(Sense::Sign(Mark::Minus)))
-}
-
-fn is_open(next: Option<Sense>) -> bool
-    ensures { result ≡ seen_is grammar.is_open (option_map said next.entry) }
-{
-    matches!(next, Some(Sense::Sign(Mark::Open)))
-}
-
-fn is_close(next: Option<Sense>) -> bool
-    ensures { result ≡ seen_is grammar.is_close (option_map said next.entry) }
-{
-    matches!(next, Some(Sense::Sign(Mark::Close)))
-}
-
-fn is_comma(next: Option<Sense>) -> bool
-    ensures { result ≡ seen_is grammar.is_comma (option_map said next.entry) }
-{
-    matches!(next, Some(Sense::Sign(Mark::Comma)))
-}
-
-fn is_prime(next: Option<Sense>) -> bool
-    ensures { result ≡ seen_is grammar.is_prime (option_map said next.entry) }
-{
-    matches!(next, Some(Sense::Sign(Mark::Prime)))
-}
-
-fn is_ampersand(next: Option<Sense>) -> bool
-    ensures { result ≡ seen_is grammar.is_ampersand (option_map said next.entry) }
-{
-    matches!(next, Some(Sense::Sign(Mark::Ampersand)))
-}
-
-fn is_bar(next: Option<Sense>) -> bool
-    ensures { result ≡ seen_is grammar.is_bar (option_map said next.entry) }
-{
-    matches!(next, Some(Sense::Sign(Mark::Bar)))
+    match next {
+        Some(Sense::Sign(found)) => found == mark,
+        _ => false,
+    }
 }
 
 fn is_flat(next: Option<Sense>) -> bool
@@ -184,128 +151,42 @@ impl<'t, 'b> Reading<'t, 'b> {
         }
     }
 
-    /// Takes a `-`, if it comes next.
-    pub fn minus(&mut self) -> bool
-        ensures taken { Takes grammar.minus self.old (found result) self.new }
+    /// Whether this sign comes next.
+    pub fn sees(&self, mark: Mark) -> bool
+        ensures { result ≡ begins (passes (grammar.sign mark)) self.now.words }
+    {
+        is_sign(self.peek(), mark)
+    }
+
+    /// Takes this sign, if it comes next.
+    pub fn take(&mut self, mark: Mark) -> bool
+        ensures taken { Takes (grammar.sign mark) self.old (found result) self.new }
         ensures onward { Onward self.old self.new }
     {
-        let found = is_minus(self.peek());
+        let found = self.sees(mark);
         if found {
             self.skip();
         }
         found
     }
 
-    /// Takes a `(`, if it comes next.
-    pub fn opening(&mut self) -> bool
-        ensures taken { Takes grammar.opening self.old (found result) self.new }
+    /// Takes this sign, which must come next.
+    pub fn expect(&mut self, mark: Mark) -> Result<(), Stop>
+        ensures reads { Reads (one (grammar.sign mark) self.old) result self.new }
         ensures onward { Onward self.old self.new }
     {
-        let found = is_open(self.peek());
-        if found {
-            self.skip();
-        }
-        found
-    }
-
-    /// Takes a `)`, if it comes next.
-    fn closing(&mut self) -> bool
-        ensures taken { Takes grammar.closing self.old (found result) self.new }
-        ensures onward { Onward self.old self.new }
-    {
-        let found = is_close(self.peek());
-        if found {
-            self.skip();
-        }
-        found
-    }
-
-    /// Takes a `)`, which must come next.
-    pub fn close(&mut self) -> Result<(), Stop>
-        ensures reads { Reads (one grammar.closing self.old) result self.new }
-        ensures onward { Onward self.old self.new }
-    {
-        if self.closing() {
+        if self.take(mark) {
             Ok(())
         } else {
             Err(Stop::Unexpected)
         }
     }
 
-    /// Takes a `,`, if it comes next.
-    pub fn comma(&mut self) -> bool
-        ensures taken { Takes grammar.comma self.old (found result) self.new }
-        ensures onward { Onward self.old self.new }
-    {
-        let found = is_comma(self.peek());
-        if found {
-            self.skip();
-        }
-        found
-    }
-
-    /// Takes a `'`, if it comes next.
-    pub fn prime(&mut self) -> bool
-        ensures taken { Takes grammar.prime self.old (found result) self.new }
-        ensures onward { Onward self.old self.new }
-    {
-        let found = is_prime(self.peek());
-        if found {
-            self.skip();
-        }
-        found
-    }
-
-    /// Takes a `&`, if it comes next.
-    pub fn ampersand(&mut self) -> bool
-        ensures taken { Takes grammar.ampersand self.old (found result) self.new }
-        ensures onward { Onward self.old self.new }
-    {
-        let found = is_ampersand(self.peek());
-        if found {
-            self.skip();
-        }
-        found
-    }
-
-    /// Takes a `|`, if it comes next.
-    pub fn bar(&mut self) -> bool
-        ensures taken { Takes grammar.bar self.old (found result) self.new }
-        ensures onward { Onward self.old self.new }
-    {
-        let found = is_bar(self.peek());
-        if found {
-            self.skip();
-        }
-        found
-    }
-
     /// Whether the next token opens a level of a value.
     pub fn opens_value(&self) -> bool
         ensures { result ≡ begins readers.opens_value self.now.words }
     {
-        is_minus(self.peek()) || is_open(self.peek())
-    }
-
-    /// Whether a `(` comes next.
-    pub fn sees_opening(&self) -> bool
-        ensures { result ≡ begins (passes grammar.opening) self.now.words }
-    {
-        is_open(self.peek())
-    }
-
-    /// Whether a `&` comes next.
-    pub fn sees_ampersand(&self) -> bool
-        ensures { result ≡ begins (passes grammar.ampersand) self.now.words }
-    {
-        is_ampersand(self.peek())
-    }
-
-    /// Whether a `|` comes next.
-    pub fn sees_bar(&self) -> bool
-        ensures { result ≡ begins (passes grammar.bar) self.now.words }
-    {
-        is_bar(self.peek())
+        self.sees(Mark::Minus) || self.sees(Mark::Open)
     }
 
     /// Whether a constant or an atom begins with the next token.

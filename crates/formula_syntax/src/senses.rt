@@ -7,23 +7,16 @@ ghost use Rattle.formula_syntax.specs.Given.{said};
 use crate::marks::Mark;
 use tel_lex::{Token, TokenKind};
 
-/// What a token says: a name, but for `not`, which is a word of its own; a variable, by its name; a
-/// number and a string, by how they are written; a directive; a sign; or none of the language.
+/// What a token says: a name, but for `not`; a variable, by its name; a number and a string, by how
+/// they are written; a sign, which `not` and the directives are too; or none of the language.
 #[derive(Clone, Copy, Debug)]
 pub enum Sense<'a> {
     Name(&'a [u8]),
-    Not,
     Variable(&'a [u8]),
     /// `_`
     Blank,
     Number(&'a [u8]),
     Str(&'a [u8]),
-    /// `#program`
-    Program,
-    /// `#const`
-    Const,
-    /// `#show`
-    Show,
     Sign(Mark),
     Other,
 }
@@ -97,11 +90,11 @@ fn directive(text: &[u8]) -> Sense<'_>
     ensures { said result ≡ spec.directive_sense text.now }
 {
     if text == b"#program".as_slice() {
-        Sense::Program
+        Sense::Sign(Mark::Program)
     } else if text == b"#const".as_slice() {
-        Sense::Const
+        Sense::Sign(Mark::Const)
     } else if text == b"#show".as_slice() {
-        Sense::Show
+        Sense::Sign(Mark::Show)
     } else {
         Sense::Other
     }
@@ -125,7 +118,7 @@ pub fn sense_of<'a>(token: &Token<'a>) -> Sense<'a>
     match token.kind {
         TokenKind::Name => {
             if text == b"not".as_slice() {
-                Sense::Not
+                Sense::Sign(Mark::Not)
             } else {
                 Sense::Name(text)
             }

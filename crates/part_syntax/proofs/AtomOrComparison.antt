@@ -12,13 +12,13 @@ use Rattle.formula_syntax.specs.Points.{Word, Known, Point, at, begins}
 use Rattle.formula_syntax.specs.Senses.{Sense, Name, Variable, Blank, Number, Str, Sign, sense}
 use Rattle.formula_syntax.specs.Shapes.{Grammar, One, Then, Either, Each, Maybe}
 use Rattle.formula_syntax.specs.Steps.{Unexpected, Deep, Read, Got, Stuck, Reader, rest_of, and_then, give, map_read, made, one, both, each, maybe, passes, or_also}
-use Rattle.formula_syntax.specs.Grammar.{plain, by_itself, leaf, leaf_of, minus, is_minus, opening, is_open, prime, is_prime, name, name_of, product_op, product_op_of, sum_op, sum_op_of, negative_of, product_of, sum_of, SignRead, IsSign, atom_of, IsValue, IsExpr, IsAtom, ProductOf, ArgsOf}
+use Rattle.formula_syntax.specs.Grammar.{plain, by_itself, leaf, leaf_of, name, name_of, product_op, product_op_of, sum_op, sum_op_of, negative_of, product_of, sum_of, SignRead, IsSign, atom_of, IsValue, IsExpr, IsAtom, ProductOf, ArgsOf, sign, is_sign}
 use Rattle.formula_syntax.specs.Reading.{read_value, read_product, read_negative, read_expr, read_sign, read_args, read_atom, starts_atom}
 use Rattle.formula_syntax.proofs.Readers.{head, one-starts_in, Near, Reads, begins-head, begins-front, rest-map, either-got, goes-inl, goes-inr, framed-inl, framed-inr, nothing, ends-first, ends-second, either-starts, not-ends}
 use Rattle.formula_syntax.proofs.Levels.{Deeper, Raised}
 use Rattle.formula_syntax.proofs.Nonterminals.{Known_by, Lifts, Apart, Passing, word-optional, operand-known, operand-lifts, operands-optional, made-known, made-lifts, then-known, then-lifts}
 use Rattle.part_syntax.proofs.ReadBy.{Read_by}
-use Rattle.formula_syntax.proofs.Families.{minus-leaf_of, starts_value, more_sum, value-known, expr-known, expr-lifts, passing-prime, passing-product_op, sums-optional, sign_word, not-sum}
+use Rattle.formula_syntax.proofs.Families.{minus-leaf_of, starts_value, more_sum, value-known, expr-known, expr-lifts, passing-product_op, sums-optional, sign_word, not-sum, passing-sign}
 use Rattle.formula_syntax.proofs.FormulaFamilies.{prime-name_of, minus-name_of, more_atom, atom-known, atom-lifts, primed-known, args-optional}
 use Rattle.part_syntax.specs.Grammar.{relation, relation_of, compare_of, IsAtomItem, IsComparison}
 use Rattle.part_syntax.specs.Reading.{starts_plain, goes_on, compares_behind, compares, read_plain, read_atom_item, read_comparison}
@@ -48,8 +48,8 @@ apart-relation word is = not-sum word (relation-more_of (sense word) is)
 
 -- so much was taken that only the first word behind it can matter
 abbrev Covers : List Word → List Word → Type 0
-Covers [] rest = (begins (passes minus) rest ≡ false) × (begins (passes name) rest ≡ false)
-Covers (first ∷ []) rest = passes minus first ≡ true → begins (passes name) rest ≡ false
+Covers [] rest = (begins (passes (sign marks.Minus)) rest ≡ false) × (begins (passes name) rest ≡ false)
+Covers (first ∷ []) rest = passes (sign marks.Minus) first ≡ true → begins (passes name) rest ≡ false
 Covers (first ∷ second ∷ more) rest = Unit {0}
 
 compares_behind-same : (a b : List Word) → head a ≡ head b → begins (passes name) a ≡ false → compares_behind a ≡ compares_behind b
@@ -59,30 +59,30 @@ compares_behind-same (word ∷ a) [] same none = absurd cc
 compares_behind-same (word ∷ a) (word' ∷ b) same none =
     let e : word ≡ word' = cc in
     let none' : passes name word' ≡ false = ap (passes name) (sym e) ∙ none in
-    rw (none, none') (ap (λ (w : Word). not (passes prime w)) e)
+    rw (none, none') (ap (λ (w : Word). not (passes (sign marks.Prime) w)) e)
 
-compares-none : (a b : List Word) → head a ≡ head b → begins (passes minus) a ≡ false → begins (passes name) a ≡ false → compares a ≡ compares b
+compares-none : (a b : List Word) → head a ≡ head b → begins (passes (sign marks.Minus)) a ≡ false → begins (passes name) a ≡ false → compares a ≡ compares b
 unfolding compares
 compares-none [] [] same none none' = refl
 compares-none [] (word ∷ b) same none none' = absurd cc
 compares-none (word ∷ a) [] same none none' = absurd cc
 compares-none (word ∷ a) (word' ∷ b) same none none' =
     let e : word ≡ word' = cc in
-    let m : passes minus word' ≡ false = ap (passes minus) (sym e) ∙ none in
+    let m : passes (sign marks.Minus) word' ≡ false = ap (passes (sign marks.Minus)) (sym e) ∙ none in
     let n : passes name word' ≡ false = ap (passes name) (sym e) ∙ none' in
-    rw (none, none', m, n) (ap (λ (w : Word). not (passes prime w)) e)
+    rw (none, none', m, n) (ap (λ (w : Word). not (passes (sign marks.Prime) w)) e)
 
-compares-one : (first : Word) (a b : List Word) → head a ≡ head b → (passes minus first ≡ true → begins (passes name) a ≡ false) → compares (first ∷ a) ≡ compares (first ∷ b)
+compares-one : (first : Word) (a b : List Word) → head a ≡ head b → (passes (sign marks.Minus) first ≡ true → begins (passes name) a ≡ false) → compares (first ∷ a) ≡ compares (first ∷ b)
 unfolding compares
-compares-one first a b same covers = elim (cases_Bool (passes minus first)) [
+compares-one first a b same covers = elim (cases_Bool (passes (sign marks.Minus) first)) [
   | inl is ↦ rw is (compares_behind-same a b same (covers is))
-  | inr isnt ↦ rw isnt (ap (λ (x : Bool). if passes name first then x else not (passes prime first)) (begins-head goes_on a b same))
+  | inr isnt ↦ rw isnt (ap (λ (x : Bool). if passes name first then x else not (passes (sign marks.Prime) first)) (begins-head goes_on a b same))
 ]
 
 compares-two : (first second : Word) (more a b : List Word) → head a ≡ head b → compares (first ∷ second ∷ (more ++ a)) ≡ compares (first ∷ second ∷ (more ++ b))
 unfolding compares
 compares-two first second more a b same =
-    ap (λ (x : Bool). if passes minus first then (if passes name second then x else not (passes prime second)) else (if passes name first then goes_on second else not (passes prime first))) (begins-front goes_on more a b same)
+    ap (λ (x : Bool). if passes (sign marks.Minus) first then (if passes name second then x else not (passes (sign marks.Prime) second)) else (if passes name first then goes_on second else not (passes (sign marks.Prime) first))) (begins-front goes_on more a b same)
 
 compares-same : (front a b : List Word) → head a ≡ head b → Covers front a → compares (front ++ a) ≡ compares (front ++ b)
 compares-same [] a b same covers = compares-none a b same covers.0 covers.1
@@ -91,8 +91,8 @@ compares-same (first ∷ second ∷ more) a b same covers = compares-two first s
 
 -- a reading that takes a `-` or a name where it stands, and a name behind a `-`
 record TakesNames (words rest : List Word) : Type 0 where
-  one_word : begins (or_also (passes minus) (passes name)) words ≡ true → length rest < length words
-  two_words : (first second : Word) (more : List Word) → words ≡ first ∷ second ∷ more → passes minus first ≡ true → passes name second ≡ true → length rest ≤ length more
+  one_word : begins (or_also (passes (sign marks.Minus)) (passes name)) words ≡ true → length rest < length words
+  two_words : (first second : Word) (more : List Word) → words ≡ first ∷ second ∷ more → passes (sign marks.Minus) first ≡ true → passes name second ≡ true → length rest ≤ length more
 
 none-begun : (test : Word → Bool) (words rest : List Word) → words ≡ rest → (begins test words ≡ true → length rest < length words) → begins test rest ≡ false
 none-begun test words rest same less = elim (cases_Bool (begins test words)) [
@@ -108,7 +108,7 @@ begins-right : (a b : Word → Bool) (words : List Word) → begins b words ≡ 
 begins-right a b [] is = is
 begins-right a b (word ∷ words) is = elim (a word) as (λ (x : Bool). (x || b word) ≡ true) [ true ↦ refl | false ↦ is ]
 
-not-named : (first : Word) (words rest : List Word) → words ≡ first ∷ rest → TakesNames words rest → passes minus first ≡ true → begins (passes name) rest ≡ false
+not-named : (first : Word) (words rest : List Word) → words ≡ first ∷ rest → TakesNames words rest → passes (sign marks.Minus) first ≡ true → begins (passes name) rest ≡ false
 not-named first words [] is takes negative = refl
 not-named first words (second ∷ more) is takes negative = elim (cases_Bool (passes name second)) [
   | inl named ↦ absurd (omega (arith, takes.two_words first second more is negative named))
@@ -117,8 +117,8 @@ not-named first words (second ∷ more) is takes negative = elim (cases_Bool (pa
 
 covers : (front words rest : List Word) → words ≡ front ++ rest → TakesNames words rest → Covers front rest
 covers [] words rest is takes = (
-  none-begun (passes minus) words rest is (λ b. takes.one_word (begins-left (passes minus) (passes name) words b)),
-  none-begun (passes name) words rest is (λ b. takes.one_word (begins-right (passes minus) (passes name) words b)),
+  none-begun (passes (sign marks.Minus)) words rest is (λ b. takes.one_word (begins-left (passes (sign marks.Minus)) (passes name) words b)),
+  none-begun (passes name) words rest is (λ b. takes.one_word (begins-right (passes (sign marks.Minus)) (passes name) words b)),
 )
 covers (first ∷ []) words rest is takes = not-named first words rest is takes
 covers (first ∷ second ∷ more) words rest is takes = tt
@@ -166,47 +166,47 @@ near-le : {A : Type 0} (read : Reader A) (from : Point) → Near read from (read
 near-le read from n = omega (arith, ap length n.whole, length-append n.front (rest_of (read from)))
 
 abbrev read_primed : Reader (Option (Unit {0}) × (List ℕ × Option (Unit {0})))
-read_primed = both (maybe (passes prime) (one prime)) (both (one name) (maybe (passes prime) (one prime)))
+read_primed = both (maybe (passes (sign marks.Prime)) (one (sign marks.Prime))) (both (one name) (maybe (passes (sign marks.Prime)) (one (sign marks.Prime))))
 
 abbrev read_named : Reader (List ℕ × Option (Unit {0}))
-read_named = both (one name) (maybe (passes prime) (one prime))
+read_named = both (one name) (maybe (passes (sign marks.Prime)) (one (sign marks.Prime)))
 
-not-primed : (word : Word) (words : List Word) → passes name word ≡ true → begins (passes prime) (word ∷ words) ≡ false
+not-primed : (word : Word) (words : List Word) → passes name word ≡ true → begins (passes (sign marks.Prime)) (word ∷ words) ≡ false
 not-primed word words is = prime-name_of (sense word) is
 
 primed-takes : (known : Known) (word : Word) (words : List Word) → passes name word ≡ true → length (rest_of (read_primed (at known (word ∷ words)))) ≤ length words
 primed-takes known word words is =
-    let a = rest-maybe_none (passes prime) (one prime) read_named known (word ∷ words) (not-primed word words is) in
-    let b = rest-behind name (maybe (passes prime) (one prime)) (word-optional prime passing-prime).reads.near known word words is in
+    let a = rest-maybe_none (passes (sign marks.Prime)) (one (sign marks.Prime)) read_named known (word ∷ words) (not-primed word words is) in
+    let b = rest-behind name (maybe (passes (sign marks.Prime)) (one (sign marks.Prime))) (word-optional (sign marks.Prime) (passing-sign marks.Prime)).reads.near known word words is in
     omega (arith, ap length a, b)
 
-sign-takes_minus : (known : Known) (word : Word) (words : List Word) (s : SomeOf (minus word)) → passes minus word ≡ true → rest_of (read_sign (at known (word ∷ words))) ≡ rest_of (read_primed (at (s.value known).1 words))
-sign-takes_minus known word words s is = rest-maybe_one minus read_primed known word words is s
+sign-takes_minus : (known : Known) (word : Word) (words : List Word) (s : SomeOf ((sign marks.Minus) word)) → passes (sign marks.Minus) word ≡ true → rest_of (read_sign (at known (word ∷ words))) ≡ rest_of (read_primed (at (s.value known).1 words))
+sign-takes_minus known word words s is = rest-maybe_one (sign marks.Minus) read_primed known word words is s
 
-sign-takes_name : (known : Known) (word : Word) (words : List Word) → passes minus word ≡ false → rest_of (read_sign (at known (word ∷ words))) ≡ rest_of (read_primed (at known (word ∷ words)))
-sign-takes_name known word words isnt = rest-maybe_none (passes minus) (one minus) read_primed known (word ∷ words) isnt
+sign-takes_name : (known : Known) (word : Word) (words : List Word) → passes (sign marks.Minus) word ≡ false → rest_of (read_sign (at known (word ∷ words))) ≡ rest_of (read_primed (at known (word ∷ words)))
+sign-takes_name known word words isnt = rest-maybe_none (passes (sign marks.Minus)) (one (sign marks.Minus)) read_primed known (word ∷ words) isnt
 
-sign-one : (known : Known) (words : List Word) → begins (or_also (passes minus) (passes name)) words ≡ true → length (rest_of (read_sign (at known words))) < length words
+sign-one : (known : Known) (words : List Word) → begins (or_also (passes (sign marks.Minus)) (passes name)) words ≡ true → length (rest_of (read_sign (at known words))) < length words
 sign-one known [] is = absurd (false≢true is)
-sign-one known (word ∷ words) is = elim (cases_Bool (passes minus word)) [
+sign-one known (word ∷ words) is = elim (cases_Bool (passes (sign marks.Minus) word)) [
   | inl negative ↦
-      let s = some-of (minus word) negative in
+      let s = some-of ((sign marks.Minus) word) negative in
       omega (arith, ap length (sign-takes_minus known word words s negative), near-le read_primed (at (s.value known).1 words) (primed-known.reads.near (at (s.value known).1 words)))
   | inr positive ↦
-      let named : passes name word ≡ true = second-of (passes minus word) (passes name word) positive is in
+      let named : passes name word ≡ true = second-of (passes (sign marks.Minus) word) (passes name word) positive is in
       omega (arith, ap length (sign-takes_name known word words positive), primed-takes known word words named)
 ] where
   second-of : (a b : Bool) → a ≡ false → (a || b) ≡ true → b ≡ true
   second-of true b isnt is' = absurd (false≢true (sym isnt))
   second-of false b isnt is' = is'
 
-sign-two : (known : Known) (words : List Word) (first second : Word) (more : List Word) → words ≡ first ∷ second ∷ more → passes minus first ≡ true → passes name second ≡ true → length (rest_of (read_sign (at known words))) ≤ length more
+sign-two : (known : Known) (words : List Word) (first second : Word) (more : List Word) → words ≡ first ∷ second ∷ more → passes (sign marks.Minus) first ≡ true → passes name second ≡ true → length (rest_of (read_sign (at known words))) ≤ length more
 sign-two known words first second more same negative named =
-    let s = some-of (minus first) negative in
+    let s = some-of ((sign marks.Minus) first) negative in
     let a : rest_of (read_sign (at known words)) ≡ rest_of (read_primed (at (s.value known).1 (second ∷ more))) = ap (λ (ws : List Word). rest_of (read_sign (at known ws))) same ∙ sign-takes_minus known first (second ∷ more) s negative in
     omega (arith, ap length a, primed-takes (s.value known).1 second more named)
 
-args-near : (n : ℕ) (from : Point) → Near (maybe (passes opening) (read_args (read_expr (suc n)))) from (maybe (passes opening) (read_args (read_expr (suc n))) from)
+args-near : (n : ℕ) (from : Point) → Near (maybe (passes (sign marks.Open)) (read_args (read_expr (suc n)))) from (maybe (passes (sign marks.Open)) (read_args (read_expr (suc n))) from)
 args-near n from = (args-optional (suc n)).reads.near from
 
 atom-rest : (n : ℕ) (from : Point) → length (rest_of (read_atom_item n from)) ≤ length (rest_of (read_sign from))
@@ -214,8 +214,8 @@ atom-rest n from =
     omega (
       arith,
       ap length (rest-map items.Atom (read_atom (suc n) from)),
-      ap length (rest-map atom_of (both read_sign (maybe (passes opening) (read_args (read_expr (suc n)))) from)),
-      rest-both read_sign (maybe (passes opening) (read_args (read_expr (suc n)))) (args-near n) from,
+      ap length (rest-map atom_of (both read_sign (maybe (passes (sign marks.Open)) (read_args (read_expr (suc n)))) from)),
+      rest-both read_sign (maybe (passes (sign marks.Open)) (read_args (read_expr (suc n)))) (args-near n) from,
     )
 
 atom-takes : (n : ℕ) (from : Point) → TakesNames from.words (rest_of (read_atom_item n from))
@@ -231,31 +231,31 @@ unfolding read_value
 value-name zero known word words is = let l : passes leaf word ≡ true = name-leaf_of (sense word) is in rw l (rest-one leaf known word words l)
 value-name (suc n) known word words is = let l : passes leaf word ≡ true = name-leaf_of (sense word) is in rw l (rest-one leaf known word words l)
 
-value-negative : (n : ℕ) (known : Known) (word : Word) (words : List Word) → passes minus word ≡ true → (s : SomeOf (minus word)) → rest_of (read_value (suc n) (at known (word ∷ words))) ≡ rest_of (read_value n (at (s.value known).1 words))
+value-negative : (n : ℕ) (known : Known) (word : Word) (words : List Word) → passes (sign marks.Minus) word ≡ true → (s : SomeOf ((sign marks.Minus) word)) → rest_of (read_value (suc n) (at known (word ∷ words))) ≡ rest_of (read_value n (at (s.value known).1 words))
 unfolding read_value
 value-negative n known word words is s =
     let l : passes leaf word ≡ false = minus-leaf_of (sense word) is in
-    let a : rest_of (read_negative (read_value n) (at known (word ∷ words))) ≡ rest_of (both (one minus) (read_value n) (at known (word ∷ words))) = rest-map negative_of (both (one minus) (read_value n) (at known (word ∷ words))) in
-    let b : rest_of (both (one minus) (read_value n) (at known (word ∷ words))) ≡ rest_of (read_value n (at (s.value known).1 words)) = rw s.is (rest-map (λ (e : Expr). let pair : Unit {0} × Expr = ((s.value known).0, e) in pair) (read_value n (at (s.value known).1 words))) in
+    let a : rest_of (read_negative (read_value n) (at known (word ∷ words))) ≡ rest_of (both (one (sign marks.Minus)) (read_value n) (at known (word ∷ words))) = rest-map negative_of (both (one (sign marks.Minus)) (read_value n) (at known (word ∷ words))) in
+    let b : rest_of (both (one (sign marks.Minus)) (read_value n) (at known (word ∷ words))) ≡ rest_of (read_value n (at (s.value known).1 words)) = rw s.is (rest-map (λ (e : Expr). let pair : Unit {0} × Expr = ((s.value known).0, e) in pair) (read_value n (at (s.value known).1 words))) in
     rw (l, is) (a ∙ b)
 
-value-one : (n : ℕ) (known : Known) (words : List Word) → begins (or_also (passes minus) (passes name)) words ≡ true → length (rest_of (read_value (suc n) (at known words))) < length words
+value-one : (n : ℕ) (known : Known) (words : List Word) → begins (or_also (passes (sign marks.Minus)) (passes name)) words ≡ true → length (rest_of (read_value (suc n) (at known words))) < length words
 value-one n known [] is = absurd (false≢true is)
-value-one n known (word ∷ words) is = elim (cases_Bool (passes minus word)) [
+value-one n known (word ∷ words) is = elim (cases_Bool (passes (sign marks.Minus) word)) [
   | inl negative ↦
-      let s = some-of (minus word) negative in
+      let s = some-of ((sign marks.Minus) word) negative in
       omega (arith, ap length (value-negative n known word words negative s), near-le (read_value n) (at (s.value known).1 words) ((value-known n).reads.near (at (s.value known).1 words)))
   | inr positive ↦
-      let named : passes name word ≡ true = second-of (passes minus word) (passes name word) positive is in
+      let named : passes name word ≡ true = second-of (passes (sign marks.Minus) word) (passes name word) positive is in
       omega (arith, ap length (value-name (suc n) known word words named))
 ] where
   second-of : (a b : Bool) → a ≡ false → (a || b) ≡ true → b ≡ true
   second-of true b isnt is' = absurd (false≢true (sym isnt))
   second-of false b isnt is' = is'
 
-value-two : (n : ℕ) (known : Known) (words : List Word) (first second : Word) (more : List Word) → words ≡ first ∷ second ∷ more → passes minus first ≡ true → passes name second ≡ true → length (rest_of (read_value (suc n) (at known words))) ≤ length more
+value-two : (n : ℕ) (known : Known) (words : List Word) (first second : Word) (more : List Word) → words ≡ first ∷ second ∷ more → passes (sign marks.Minus) first ≡ true → passes name second ≡ true → length (rest_of (read_value (suc n) (at known words))) ≤ length more
 value-two n known words first second more same negative named =
-    let s = some-of (minus first) negative in
+    let s = some-of ((sign marks.Minus) first) negative in
     let a : rest_of (read_value (suc n) (at known words)) ≡ more = ap (λ (ws : List Word). rest_of (read_value (suc n) (at known ws))) same ∙ value-negative n known first (second ∷ more) negative s ∙ value-name n (s.value known).1 second more named in
     omega (arith, ap length a)
 
@@ -295,11 +295,11 @@ comparison-takes n from = record {
 
 -- ---- atoms are told from comparisons
 
-goes_on-opening_of : (s : Sense) → is_some (plain (is_open s)) ≡ true → (is_some (by_itself (product_op_of s)) ≡ false) × (is_some (by_itself (sum_op_of s)) ≡ false) × (is_some (by_itself (relation_of s)) ≡ false)
+goes_on-opening_of : (s : Sense) → is_some (plain (is_sign marks.Open s)) ≡ true → (is_some (by_itself (product_op_of s)) ≡ false) × (is_some (by_itself (sum_op_of s)) ≡ false) × (is_some (by_itself (relation_of s)) ≡ false)
 goes_on-opening_of (Sign marks.Open) is = (refl, refl, refl)
 goes_on-opening_of _ is = absurd (false≢true is)
 
-goes_on-prime_of : (s : Sense) → is_some (plain (is_prime s)) ≡ true → (is_some (by_itself (product_op_of s)) ≡ false) × (is_some (by_itself (sum_op_of s)) ≡ false) × (is_some (by_itself (relation_of s)) ≡ false)
+goes_on-prime_of : (s : Sense) → is_some (plain (is_sign marks.Prime s)) ≡ true → (is_some (by_itself (product_op_of s)) ≡ false) × (is_some (by_itself (sum_op_of s)) ≡ false) × (is_some (by_itself (relation_of s)) ≡ false)
 goes_on-prime_of (Sign marks.Prime) is = (refl, refl, refl)
 goes_on-prime_of _ is = absurd (false≢true is)
 
@@ -309,20 +309,20 @@ not-goes_on word a = rw (a.0, a.1, a.2) refl
 one-begins : {A : Type 0} (value : Word → Option (Known → A × Known)) (test : Word → Bool) (b : Bool) → ((word : Word) → passes value word ≡ true → test word ≡ b) → (from : Point) (thing : A) (to : Point) → One value from thing to → begins test from.words ≡ b
 one-begins value test b same from thing to o = ap (begins test) o.first ∙ same o.word (one-starts_in value o.word o.make o.gives)
 
-opening-ends : (word : Word) → passes opening word ≡ true → goes_on word ≡ false
+opening-ends : (word : Word) → passes (sign marks.Open) word ≡ true → goes_on word ≡ false
 opening-ends word is = not-goes_on word (goes_on-opening_of (sense word) is)
 
-prime-ends : (word : Word) → passes prime word ≡ true → goes_on word ≡ false
+prime-ends : (word : Word) → passes (sign marks.Prime) word ≡ true → goes_on word ≡ false
 prime-ends word is = not-goes_on word (goes_on-prime_of (sense word) is)
 
 -- behind the arguments, if there are any, nothing goes on
 args-ends : (n : ℕ) (from : Point) (args : Option (List Expr)) (to : Point) → Maybe (ArgsOf (IsExpr n)) from args to → begins goes_on to.words ≡ false → begins goes_on from.words ≡ false
 args-ends n from None to same end = ap (λ (p : Point). begins goes_on p.words) same ∙ end
-args-ends n from (Some args) to r end = one-begins opening goes_on false opening-ends from r.of.0 r.reads.middle r.reads.first
+args-ends n from (Some args) to r end = one-begins (sign marks.Open) goes_on false opening-ends from r.of.0 r.reads.middle r.reads.first
 
-prime-then_ends : (from : Point) (after : Option (Unit {0})) (to : Point) → Maybe (One prime) from after to → begins goes_on to.words ≡ false → begins goes_on from.words ≡ false
+prime-then_ends : (from : Point) (after : Option (Unit {0})) (to : Point) → Maybe (One (sign marks.Prime)) from after to → begins goes_on to.words ≡ false → begins goes_on from.words ≡ false
 prime-then_ends from None to same end = ap (λ (p : Point). begins goes_on p.words) same ∙ end
-prime-then_ends from (Some after) to r end = one-begins prime goes_on false prime-ends from after to r
+prime-then_ends from (Some after) to r end = one-begins (sign marks.Prime) goes_on false prime-ends from after to r
 
 -- a name, and nothing that goes on behind it
 record NameAlone (words : List Word) : Type 0 where
@@ -332,7 +332,7 @@ record NameAlone (words : List Word) : Type 0 where
   named : passes name word ≡ true
   alone : begins goes_on behind ≡ false
 
-name-alone : (from : Point) (thing : List ℕ × Option (Unit {0})) (to : Point) → Then (One name) (Maybe (One prime)) from thing to → begins goes_on to.words ≡ false → NameAlone from.words
+name-alone : (from : Point) (thing : List ℕ × Option (Unit {0})) (to : Point) → Then (One name) (Maybe (One (sign marks.Prime))) from thing to → begins goes_on to.words ≡ false → NameAlone from.words
 name-alone from thing to t end = record {
   word = t.first.word;
   behind = t.middle.words;
@@ -350,32 +350,32 @@ alone-no : (words : List Word) → NameAlone words → NoComparison words
 unfolding compares
 alone-no words a = record {
   behind = rw (a.is, a.named) a.alone;
-  first = let n : passes minus a.word ≡ false = minus-name_of (sense a.word) a.named in rw (a.is, n, a.named) a.alone;
+  first = let n : passes (sign marks.Minus) a.word ≡ false = minus-name_of (sense a.word) a.named in rw (a.is, n, a.named) a.alone;
 }
 
-prime-plain_of : (s : Sense) → is_some (plain (is_prime s)) ≡ true → (is_some (plain (is_minus s)) ≡ false) × (is_some (by_itself (name_of s)) ≡ false)
+prime-plain_of : (s : Sense) → is_some (plain (is_sign marks.Prime s)) ≡ true → (is_some (plain (is_sign marks.Minus s)) ≡ false) × (is_some (by_itself (name_of s)) ≡ false)
 prime-plain_of (Sign marks.Prime) is = (refl, refl)
 prime-plain_of _ is = absurd (false≢true is)
 
-prime-no : (word : Word) (words : List Word) → passes prime word ≡ true → NoComparison (word ∷ words)
+prime-no : (word : Word) (words : List Word) → passes (sign marks.Prime) word ≡ true → NoComparison (word ∷ words)
 unfolding compares
 prime-no word words is =
     let f = prime-plain_of (sense word) is in
-    let m : passes minus word ≡ false = f.0 in
+    let m : passes (sign marks.Minus) word ≡ false = f.0 in
     let n : passes name word ≡ false = f.1 in
     record { behind = rw (n, is) refl; first = rw (m, n, is) refl }
 
-primed-no : (from : Point) (before : Option (Unit {0})) (middle : Point) → Maybe (One prime) from before middle → NoComparison middle.words → NoComparison from.words
+primed-no : (from : Point) (before : Option (Unit {0})) (middle : Point) → Maybe (One (sign marks.Prime)) from before middle → NoComparison middle.words → NoComparison from.words
 primed-no from None middle same no_more = subst (λ (p : Point). NoComparison p.words) (sym same) no_more
-primed-no from (Some before) middle r no_more = subst (λ (ws : List Word). NoComparison ws) (sym r.first) (prime-no r.word middle.words (one-starts_in prime r.word r.make r.gives))
+primed-no from (Some before) middle r no_more = subst (λ (ws : List Word). NoComparison ws) (sym r.first) (prime-no r.word middle.words (one-starts_in (sign marks.Prime) r.word r.make r.gives))
 
-negative-no : (word : Word) (words : List Word) → passes minus word ≡ true → NoComparison words → compares (word ∷ words) ≡ false
+negative-no : (word : Word) (words : List Word) → passes (sign marks.Minus) word ≡ true → NoComparison words → compares (word ∷ words) ≡ false
 unfolding compares
 negative-no word words is no_more = rw is no_more.behind
 
-negated-no : (from : Point) (negative : Option (Unit {0})) (middle : Point) → Maybe (One minus) from negative middle → NoComparison middle.words → compares from.words ≡ false
+negated-no : (from : Point) (negative : Option (Unit {0})) (middle : Point) → Maybe (One (sign marks.Minus)) from negative middle → NoComparison middle.words → compares from.words ≡ false
 negated-no from None middle same no_more = ap (λ (p : Point). compares p.words) same ∙ no_more.first
-negated-no from (Some negative) middle r no_more = ap compares r.first ∙ negative-no r.word middle.words (one-starts_in minus r.word r.make r.gives) no_more
+negated-no from (Some negative) middle r no_more = ap compares r.first ∙ negative-no r.word middle.words (one-starts_in (sign marks.Minus) r.word r.make r.gives) no_more
 
 sign-compares : (from : Point) (sign : SignRead) (to : Point) → IsSign from sign to → begins goes_on to.words ≡ false → compares from.words ≡ false
 sign-compares from sign to t end =
@@ -399,7 +399,7 @@ goes_on-sum words is = begins-right (passes product_op) (or_also (passes sum_op)
 goes_on-relation : (words : List Word) → begins (passes relation) words ≡ true → begins goes_on words ≡ true
 goes_on-relation words is = begins-right (passes product_op) (or_also (passes sum_op) (passes relation)) words (begins-right (passes sum_op) (passes relation) words is)
 
-leaf-plain_of : (s : Sense) → is_some (leaf_of s) ≡ true → (is_some (plain (is_minus s)) ≡ false) × (is_some (plain (is_prime s)) ≡ false)
+leaf-plain_of : (s : Sense) → is_some (leaf_of s) ≡ true → (is_some (plain (is_sign marks.Minus s)) ≡ false) × (is_some (plain (is_sign marks.Prime s)) ≡ false)
 leaf-plain_of (Number text) is = (refl, refl)
 leaf-plain_of (Name text) is = (refl, refl)
 leaf-plain_of (Str text) is = (refl, refl)
@@ -407,11 +407,11 @@ leaf-plain_of (Variable text) is = (refl, refl)
 leaf-plain_of Blank is = (refl, refl)
 leaf-plain_of _ is = absurd (false≢true is)
 
-open-plain_of : (s : Sense) → is_some (plain (is_open s)) ≡ true → (is_some (plain (is_minus s)) ≡ false) × (is_some (by_itself (name_of s)) ≡ false) × (is_some (plain (is_prime s)) ≡ false)
+open-plain_of : (s : Sense) → is_some (plain (is_sign marks.Open s)) ≡ true → (is_some (plain (is_sign marks.Minus s)) ≡ false) × (is_some (by_itself (name_of s)) ≡ false) × (is_some (plain (is_sign marks.Prime s)) ≡ false)
 open-plain_of (Sign marks.Open) is = (refl, refl, refl)
 open-plain_of _ is = absurd (false≢true is)
 
-minus-plain_of : (s : Sense) → is_some (plain (is_minus s)) ≡ true → (is_some (by_itself (name_of s)) ≡ false) × (is_some (plain (is_prime s)) ≡ false)
+minus-plain_of : (s : Sense) → is_some (plain (is_sign marks.Minus s)) ≡ true → (is_some (by_itself (name_of s)) ≡ false) × (is_some (plain (is_sign marks.Prime s)) ≡ false)
 minus-plain_of (Sign marks.Minus) is = (refl, refl)
 minus-plain_of _ is = absurd (false≢true is)
 
@@ -424,28 +424,28 @@ leaf-comparing : (word : Word) (words : List Word) → passes leaf word ≡ true
 unfolding compares
 leaf-comparing word words is on =
     let f = leaf-plain_of (sense word) is in
-    let m : passes minus word ≡ false = f.0 in
-    let p : passes prime word ≡ false = f.1 in
+    let m : passes (sign marks.Minus) word ≡ false = f.0 in
+    let p : passes (sign marks.Prime) word ≡ false = f.1 in
     elim (cases_Bool (passes name word)) [
       | inl named ↦ record { behind = rw named on; first = rw (m, named) on }
       | inr other ↦ record { behind = rw (other, p) refl; first = rw (m, other, p) refl }
     ]
 
-open-comparing : (word : Word) (words : List Word) → passes opening word ≡ true → Comparing (word ∷ words)
+open-comparing : (word : Word) (words : List Word) → passes (sign marks.Open) word ≡ true → Comparing (word ∷ words)
 unfolding compares
 open-comparing word words is =
     let f = open-plain_of (sense word) is in
-    let m : passes minus word ≡ false = f.0 in
+    let m : passes (sign marks.Minus) word ≡ false = f.0 in
     let n : passes name word ≡ false = f.1 in
-    let p : passes prime word ≡ false = f.2 in
+    let p : passes (sign marks.Prime) word ≡ false = f.2 in
     record { behind = rw (n, p) refl; first = rw (m, n, p) refl }
 
-minus-comparing : (word : Word) (words : List Word) → passes minus word ≡ true → compares_behind words ≡ true → Comparing (word ∷ words)
+minus-comparing : (word : Word) (words : List Word) → passes (sign marks.Minus) word ≡ true → compares_behind words ≡ true → Comparing (word ∷ words)
 unfolding compares
 minus-comparing word words is on =
     let f = minus-plain_of (sense word) is in
     let n : passes name word ≡ false = f.0 in
-    let p : passes prime word ≡ false = f.1 in
+    let p : passes (sign marks.Prime) word ≡ false = f.1 in
     record { behind = rw (n, p) refl; first = rw is on }
 
 one-comparing : {A : Type 0} (value : Word → Option (Known → A × Known)) (from : Point) (thing : A) (to : Point) → One value from thing to → ((word : Word) → passes value word ≡ true → Comparing (word ∷ to.words)) → Comparing from.words
@@ -457,10 +457,10 @@ value-comparing zero from value to o on = one-comparing leaf from value to o (λ
 value-comparing (suc n) from value to (inl o) on = one-comparing leaf from value to o (λ word is. leaf-comparing word to.words is on)
 value-comparing (suc n) from value to (inr (inl m)) on =
     let t = m.reads in
-    one-comparing minus from m.of.0 t.middle t.first (λ word is. minus-comparing word t.middle.words is (value-comparing n t.middle m.of.1 to t.second on).behind)
+    one-comparing (sign marks.Minus) from m.of.0 t.middle t.first (λ word is. minus-comparing word t.middle.words is (value-comparing n t.middle m.of.1 to t.second on).behind)
 value-comparing (suc n) from value to (inr (inr m)) on =
     let t = m.reads in
-    one-comparing opening from m.of.0 t.middle t.first (λ word is. open-comparing word t.middle.words is)
+    one-comparing (sign marks.Open) from m.of.0 t.middle t.first (λ word is. open-comparing word t.middle.words is)
 
 -- what stands behind a first operand goes on
 chain-on : {A B : Type 0} (op : Word → Option (Known → A × Known)) (F : Grammar B) → ((from : Point) (things : List (A × B)) (to : Point) → Each (Then (One op) F) from things to → (from ≡ to) ⊎ (begins (passes op) from.words ≡ true)) → ((words : List Word) → begins (passes op) words ≡ true → begins goes_on words ≡ true) → (from : Point) (things : List (A × B)) (to : Point) → Each (Then (One op) F) from things to → begins goes_on to.words ≡ true → begins goes_on from.words ≡ true

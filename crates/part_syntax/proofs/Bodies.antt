@@ -1,14 +1,15 @@
 -- Where no literal begins, no body is read; and a body and its stop behind `:-`.
+use Rattle.formula_syntax.specs.declared.marks.Mark.TheVariants as marks
 use Rattle.std.proofs.Common.{◌≡◌, ℕ, suc, Bool, true, false, List, [], ◌∷◌, Option, Some, None, refl, ap, ◌∙◌, ◌||◌}
 use Rattle.std.specs.Prelude.{is_some}
 use Rattle.tel_term.specs.declared.exprs.Expr.{Expr}
 use Rattle.tel_rule.specs.declared.statements.Literal.{Literal}
 use Rattle.formula_syntax.specs.Points.{Word, Known, Point, at, begins}
 use Rattle.formula_syntax.specs.Steps.{Unexpected, Read, Got, Stuck, and_then, map_read, made, one_made, one, both, either, maybe, passes, or_also}
-use Rattle.formula_syntax.specs.Grammar.{leaf, minus, opening, closing, name, prime, ampersand, between}
+use Rattle.formula_syntax.specs.Grammar.{leaf, name, between, sign}
 use Rattle.formula_syntax.specs.Reading.{read_value, read_expr, read_negative, read_bracketed, read_sum, read_product, opens_value, starts_atom}
 use Rattle.formula_syntax.proofs.Readers.{either-got}
-use Rattle.part_syntax.specs.Grammar.{not_word, if_sign, stop, literal, body_of}
+use Rattle.part_syntax.specs.Grammar.{literal, body_of}
 use Rattle.part_syntax.specs.Reading.{compares, read_tel, read_plain, read_negated, read_literal, read_body, read_tail, starts_literal, starts_plain, starts_value}
 use Rattle.part_syntax.specs.Given.{first_of, body_or_none}
 
@@ -42,18 +43,18 @@ neither_second f g (word ∷ words) is = or_second (f word) (g word) is
 value_none : (n : ℕ) (from : Point) → begins (passes leaf) from.words ≡ false → begins opens_value from.words ≡ false → read_value (suc n) from ≡ Stuck Unexpected from.words
 unfolding read_value
 value_none n from flat opens =
-    let no_minus = neither_first (passes minus) (passes opening) from.words opens in
-    let no_open = one_none opening from (neither_second (passes minus) (passes opening) from.words opens) in
-    either-got (passes leaf) (one leaf) (either (passes minus) (read_negative (read_value n)) (read_bracketed (read_sum (read_product (read_value n))))) from false flat
-    ∙ either-got (passes minus) (read_negative (read_value n)) (read_bracketed (read_sum (read_product (read_value n)))) from false no_minus
-    ∙ ap (λ (x : Read (Unit {0})). map_read between (and_then x (λ (a : Unit {0}) (to : Point). map_read (λ (b : Expr × Unit {0}). (a, b)) (both (read_sum (read_product (read_value n))) (one closing) to)))) no_open
+    let no_minus = neither_first (passes (sign marks.Minus)) (passes (sign marks.Open)) from.words opens in
+    let no_open = one_none (sign marks.Open) from (neither_second (passes (sign marks.Minus)) (passes (sign marks.Open)) from.words opens) in
+    either-got (passes leaf) (one leaf) (either (passes (sign marks.Minus)) (read_negative (read_value n)) (read_bracketed (read_sum (read_product (read_value n))))) from false flat
+    ∙ either-got (passes (sign marks.Minus)) (read_negative (read_value n)) (read_bracketed (read_sum (read_product (read_value n)))) from false no_minus
+    ∙ ap (λ (x : Read (Unit {0})). map_read between (and_then x (λ (a : Unit {0}) (to : Point). map_read (λ (b : Expr × Unit {0}). (a, b)) (both (read_sum (read_product (read_value n))) (one (sign marks.Close)) to)))) no_open
 
 expr_none : (n : ℕ) (from : Point) → begins starts_value from.words ≡ false → read_expr (suc n) from ≡ Stuck Unexpected from.words
 expr_none n from none =
     let v = value_none n from (neither_first (passes leaf) opens_value from.words none) (neither_second (passes leaf) opens_value from.words none) in
     rw v refl
 
-compares_is : (word : Word) (words : List Word) → passes minus word ≡ false → passes name word ≡ false → passes prime word ≡ false → compares (word ∷ words) ≡ true
+compares_is : (word : Word) (words : List Word) → passes (sign marks.Minus) word ≡ false → passes name word ≡ false → passes (sign marks.Prime) word ≡ false → compares (word ∷ words) ≡ true
 unfolding compares
 compares_is word words m n p = rw (m, n, p) refl
 
@@ -66,19 +67,19 @@ plain_none_in n known [] none = plain_end n known
 plain_none_in n known (word ∷ words) none =
     let atom = neither_first starts_atom starts_value (word ∷ words) none in
     let value = neither_second starts_atom starts_value (word ∷ words) none in
-    let m = or_first (passes minus word) (passes prime word || passes name word) atom in
-    let more = or_second (passes minus word) (passes prime word || passes name word) atom in
-    let c = compares_is word words m (or_second (passes prime word) (passes name word) more) (or_first (passes prime word) (passes name word) more) in
+    let m = or_first (passes (sign marks.Minus) word) (passes (sign marks.Prime) word || passes name word) atom in
+    let more = or_second (passes (sign marks.Minus) word) (passes (sign marks.Prime) word || passes name word) atom in
+    let c = compares_is word words m (or_second (passes (sign marks.Prime) word) (passes name word) more) (or_first (passes (sign marks.Prime) word) (passes name word) more) in
     let e = expr_none n (at known (word ∷ words)) value in
     rw (c, e) refl
 
 literal_none : (n : ℕ) (from : Point) → begins starts_literal from.words ≡ false → read_literal n from ≡ Stuck Unexpected from.words
 literal_none n from none =
-    let no_not = neither_first (passes not_word) (or_also (passes ampersand) starts_plain) from.words none in
-    let more = neither_second (passes not_word) (or_also (passes ampersand) starts_plain) from.words none in
-    let no_tel = neither_first (passes ampersand) starts_plain from.words more in
-    let plain = plain_none_in n from.known from.words (neither_second (passes ampersand) starts_plain from.words more) in
-    either-got (passes not_word) (read_negated n) (made (literal 0) (either (passes ampersand) (read_tel n) (read_plain n))) from false no_not ∙ ap (map_read (literal 0)) (either-got (passes ampersand) (read_tel n) (read_plain n) from false no_tel ∙ plain)
+    let no_not = neither_first (passes (sign marks.Not)) (or_also (passes (sign marks.Ampersand)) starts_plain) from.words none in
+    let more = neither_second (passes (sign marks.Not)) (or_also (passes (sign marks.Ampersand)) starts_plain) from.words none in
+    let no_tel = neither_first (passes (sign marks.Ampersand)) starts_plain from.words more in
+    let plain = plain_none_in n from.known from.words (neither_second (passes (sign marks.Ampersand)) starts_plain from.words more) in
+    either-got (passes (sign marks.Not)) (read_negated n) (made (literal 0) (either (passes (sign marks.Ampersand)) (read_tel n) (read_plain n))) from false no_not ∙ ap (map_read (literal 0)) (either-got (passes (sign marks.Ampersand)) (read_tel n) (read_plain n) from false no_tel ∙ plain)
 
 pub body_none : (n : ℕ) (from : Point) → begins starts_literal from.words ≡ false → read_body n from ≡ Stuck Unexpected from.words
 body_none n from none = rw (literal_none n from none) refl
@@ -88,22 +89,22 @@ ended body (Got end to) = refl
 ended body (Stuck why rest) = refl
 
 body_there : (out : Read (List Literal)) →
-    map_read body_or_none (and_then (map_read Some out) (λ (a : Option (List Literal)) (to : Point). map_read (λ (b : Unit {0}). (a, b)) (one stop to)))
-    ≡ map_read first_of (and_then out (λ (a : List Literal) (to : Point). map_read (λ (b : Unit {0}). (a, b)) (one stop to)))
-body_there (Got body to) = ended body (one stop to)
+    map_read body_or_none (and_then (map_read Some out) (λ (a : Option (List Literal)) (to : Point). map_read (λ (b : Unit {0}). (a, b)) (one (sign marks.Stop) to)))
+    ≡ map_read first_of (and_then out (λ (a : List Literal) (to : Point). map_read (λ (b : Unit {0}). (a, b)) (one (sign marks.Stop) to)))
+body_there (Got body to) = ended body (one (sign marks.Stop) to)
 body_there (Stuck why rest) = refl
 
-body_by : (n : ℕ) (from : Point) (b : Bool) → begins starts_literal from.words ≡ b → begins (passes stop) from.words ≡ false →
-    made body_or_none (both (maybe starts_literal (read_body n)) (one stop)) from ≡ made first_of (both (read_body n) (one stop)) from
+body_by : (n : ℕ) (from : Point) (b : Bool) → begins starts_literal from.words ≡ b → begins (passes (sign marks.Stop)) from.words ≡ false →
+    made body_or_none (both (maybe starts_literal (read_body n)) (one (sign marks.Stop))) from ≡ made first_of (both (read_body n) (one (sign marks.Stop))) from
 body_by n from true is other = rw is (body_there (read_body n from))
 body_by n from false is other =
-    let left = one_none stop from other in
+    let left = one_none (sign marks.Stop) from other in
     let right = body_none n from is in
     rw (is, left, right) refl
 
 -- where no stop stands, a body is read
-pub body_behind : (n : ℕ) (from : Point) → begins (passes stop) from.words ≡ false →
-    made body_or_none (both (maybe starts_literal (read_body n)) (one stop)) from ≡ made first_of (both (read_body n) (one stop)) from
+pub body_behind : (n : ℕ) (from : Point) → begins (passes (sign marks.Stop)) from.words ≡ false →
+    made body_or_none (both (maybe starts_literal (read_body n)) (one (sign marks.Stop))) from ≡ made first_of (both (read_body n) (one (sign marks.Stop))) from
 body_behind n from other = body_by n from (begins starts_literal from.words) refl other
 
 behind_if : (out : Read (Option (List Literal) × Unit {0})) → map_read body_of (map_read (λ (b : Option (List Literal) × Unit {0}). (tt, b)) out) ≡ map_read body_or_none out
@@ -111,7 +112,7 @@ behind_if (Got read to) = refl
 behind_if (Stuck why rest) = refl
 
 -- the tail of a rule, behind its `:-`
-pub tail_behind : (n : ℕ) (from middle : Point) → one if_sign from ≡ Got tt middle → read_tail n from ≡ made body_or_none (both (maybe starts_literal (read_body n)) (one stop)) middle
+pub tail_behind : (n : ℕ) (from middle : Point) → one (sign marks.If) from ≡ Got tt middle → read_tail n from ≡ made body_or_none (both (maybe starts_literal (read_body n)) (one (sign marks.Stop))) middle
 tail_behind n from middle is =
-    ap (λ (x : Read (Unit {0})). map_read body_of (and_then x (λ (a : Unit {0}) (to : Point). map_read (λ (b : Option (List Literal) × Unit {0}). (a, b)) (both (maybe starts_literal (read_body n)) (one stop) to)))) is
-    ∙ behind_if (both (maybe starts_literal (read_body n)) (one stop) middle)
+    ap (λ (x : Read (Unit {0})). map_read body_of (and_then x (λ (a : Unit {0}) (to : Point). map_read (λ (b : Option (List Literal) × Unit {0}). (a, b)) (both (maybe starts_literal (read_body n)) (one (sign marks.Stop)) to)))) is
+    ∙ behind_if (both (maybe starts_literal (read_body n)) (one (sign marks.Stop)) middle)

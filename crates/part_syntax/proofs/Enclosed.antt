@@ -1,11 +1,12 @@
 -- Tuples and the bracket behind them, read in two orders.
+use Rattle.formula_syntax.specs.declared.marks.Mark.TheVariants as marks
 use Rattle.std.proofs.Common.{◌≡◌, ℕ, List, refl, ap, ◌∙◌}
 use Rattle.formula_syntax.specs.Points.{Point}
 use Rattle.formula_syntax.specs.Steps.{Read, Got, Stuck, Reader, and_then, map_read, made, both}
 use Rattle.formula_syntax.specs.Steps.{one, each, passes}
-use Rattle.formula_syntax.specs.Grammar.{opening, closing}
+use Rattle.formula_syntax.specs.Grammar.{sign}
 use Rattle.tel_rule.specs.declared.statements.Arg.{Arg}
-use Rattle.part_syntax.specs.Grammar.{chain_of, tuples_of, semicolon}
+use Rattle.part_syntax.specs.Grammar.{chain_of, tuples_of}
 use Rattle.part_syntax.specs.Reading.{read_tuple, read_tuples}
 use Rattle.part_syntax.specs.Given.{first_of}
 
@@ -33,14 +34,14 @@ module _ {A B C : Type 0} (end : Reader C) where
   pub row_closed : (begin : Reader B) (more : Reader (List (A × B))) (from : Point) → made row_of (both begin (both more end)) from ≡ made first_of (both (made chain_of (both begin more)) end) from
   row_closed begin more from = first more (begin from)
 
-behind_opening : (out : Read (List Arg × (List (Unit {0} × List Arg) × Unit {0}))) → map_read tuples_of (map_read (λ (b : List Arg × (List (Unit {0} × List Arg) × Unit {0})). (tt, b)) out) ≡ map_read (row_of {A = Unit {0}} {B = List Arg} {C = Unit {0}} (one closing)) out
+behind_opening : (out : Read (List Arg × (List (Unit {0} × List Arg) × Unit {0}))) → map_read tuples_of (map_read (λ (b : List Arg × (List (Unit {0} × List Arg) × Unit {0})). (tt, b)) out) ≡ map_read (row_of {A = Unit {0}} {B = List Arg} {C = Unit {0}} (one (sign marks.Close))) out
 behind_opening (Got read to) = refl
 behind_opening (Stuck why rest) = refl
 
 -- tuples in brackets, behind the first bracket
-pub tuples_opened : (n : ℕ) (from middle : Point) → one opening from ≡ Got tt middle →
-    read_tuples n from ≡ made first_of (both (made chain_of (both (read_tuple n) (each (passes semicolon) (both (one semicolon) (read_tuple n))))) (one closing)) middle
+pub tuples_opened : (n : ℕ) (from middle : Point) → one (sign marks.Open) from ≡ Got tt middle →
+    read_tuples n from ≡ made first_of (both (made chain_of (both (read_tuple n) (each (passes (sign marks.Semicolon)) (both (one (sign marks.Semicolon)) (read_tuple n))))) (one (sign marks.Close))) middle
 tuples_opened n from middle is =
-    ap (λ (x : Read (Unit {0})). map_read tuples_of (and_then x (λ (a : Unit {0}) (to : Point). map_read (λ (b : List Arg × (List (Unit {0} × List Arg) × Unit {0})). (a, b)) (both (read_tuple n) (both (each (passes semicolon) (both (one semicolon) (read_tuple n))) (one closing)) to)))) is
-    ∙ behind_opening (both (read_tuple n) (both (each (passes semicolon) (both (one semicolon) (read_tuple n))) (one closing)) middle)
-    ∙ row_closed (one closing) (read_tuple n) (each (passes semicolon) (both (one semicolon) (read_tuple n))) middle
+    ap (λ (x : Read (Unit {0})). map_read tuples_of (and_then x (λ (a : Unit {0}) (to : Point). map_read (λ (b : List Arg × (List (Unit {0} × List Arg) × Unit {0})). (a, b)) (both (read_tuple n) (both (each (passes (sign marks.Semicolon)) (both (one (sign marks.Semicolon)) (read_tuple n))) (one (sign marks.Close))) to)))) is
+    ∙ behind_opening (both (read_tuple n) (both (each (passes (sign marks.Semicolon)) (both (one (sign marks.Semicolon)) (read_tuple n))) (one (sign marks.Close))) middle)
+    ∙ row_closed (one (sign marks.Close)) (read_tuple n) (each (passes (sign marks.Semicolon)) (both (one (sign marks.Semicolon)) (read_tuple n))) middle

@@ -1,6 +1,7 @@
 -- A statement has variables of its own, so that those of the one before make no difference.
 use Rattle.std.proofs.Common.{◌≡◌, ℕ, zero, suc, Bool, true, false, List, ◌∷◌, length, refl, sym, ap, ◌∙◌}
 use Rattle.std.specs.Prelude.{◌≢◌}
+use Rattle.tel_base.specs.declared.places.Place.{Place}
 use Rattle.formula_syntax.specs.Points.{Point, at, begins}
 use Rattle.formula_syntax.specs.Steps.{Read, Got, Stuck, and_then, map_read, at_most, each}
 use Rattle.formula_syntax.specs.declared.reading.Stop.{Stop}
@@ -13,6 +14,11 @@ use Rattle.part_syntax.specs.Given.{forgotten, fresh_stated}
 pub stated_stop : (n : ℕ) (from fresh to : Point) (stop : Stop) → fresh ≡ at (afresh from.known) from.words → (stop ≢ stops.Memory → read_item n fresh ≡ Stuck (why_of stop) to.words) → stop ≢ stops.Memory → fresh_stated n from ≡ Stuck (why_of stop) to.words
 stated_stop n from fresh to stop is one other =
     ap (λ (x : Read Item). forgotten (noted (place_at from.words) x)) (ap (read_item n) (sym is) ∙ one other)
+
+pub stated_got : (n : ℕ) (from fresh to new : Point) (item : Item) (place : Place) (vars : List (List ℕ)) → fresh ≡ at (afresh from.known) from.words → place ≡ place_at fresh.words → read_item n fresh ≡ Got item to → vars ≡ to.known.vars → new ≡ at (afresh to.known) to.words → fresh_stated n from ≡ Got (record { place = place; vars = vars; item = item }) new
+stated_got n from fresh to new item place vars is first read seen end =
+    let p : place ≡ place_at from.words = first ∙ ap (λ (q : Point). place_at q.words) is in
+    rw (p, seen, end) (ap (λ (x : Read Item). forgotten (noted (place_at from.words) x)) (ap (read_item n) (sym is) ∙ read))
 
 -- the same point, with no variables
 abbrev pub cleared : Point → Point

@@ -1,11 +1,12 @@
 -- A literal behind one `not` or two.
+use Rattle.formula_syntax.specs.declared.marks.Mark.TheVariants as marks
 use Rattle.std.proofs.Common.{◌≡◌, ℕ, ◌+◌, Option, refl, ap, ◌∙◌}
 use Rattle.tel_rule.specs.declared.statements.LitItem.{LitItem}
 use Rattle.tel_rule.specs.declared.statements.Literal.{Literal}
 use Rattle.formula_syntax.specs.Points.{Point}
 use Rattle.formula_syntax.specs.Steps.{Read, Got, Stuck, Reader, and_then, map_read, made, one, both, maybe, passes}
-use Rattle.formula_syntax.specs.Grammar.{count}
-use Rattle.part_syntax.specs.Grammar.{not_word, literal, negated_of}
+use Rattle.formula_syntax.specs.Grammar.{count, sign}
+use Rattle.part_syntax.specs.Grammar.{literal, negated_of}
 use Rattle.part_syntax.specs.Reading.{read_negated, read_item_of}
 
 nots_then : Read (Option (Unit {0})) → Reader LitItem → Read (Option (Unit {0}) × LitItem)
@@ -27,8 +28,8 @@ two_steps (Got further to) second nots middle is =
 two_steps (Stuck why rest) second nots middle is = absurd cc
 
 -- behind a `not`, and a further one or none, stands what the literal speaks of
-pub negated_is : (n : ℕ) (from middle later : Point) (nots : ℕ) → one not_word from ≡ Got tt middle → made count (maybe (passes not_word) (one not_word)) middle ≡ Got nots later → read_negated n from ≡ map_read (literal_of nots) (read_item_of n later)
+pub negated_is : (n : ℕ) (from middle later : Point) (nots : ℕ) → one (sign marks.Not) from ≡ Got tt middle → made count (maybe (passes (sign marks.Not)) (one (sign marks.Not))) middle ≡ Got nots later → read_negated n from ≡ map_read (literal_of nots) (read_item_of n later)
 unfolding nots_then
 negated_is n from middle later nots first second =
-    ap (λ (x : Read (Unit {0})). map_read negated_of (and_then x (λ (a : Unit {0}) (to : Point). map_read (λ (b : Option (Unit {0}) × LitItem). (a, b)) (both (maybe (passes not_word) (one not_word)) (read_item_of n) to)))) first
-    ∙ two_steps (maybe (passes not_word) (one not_word) middle) (read_item_of n) nots later second
+    ap (λ (x : Read (Unit {0})). map_read negated_of (and_then x (λ (a : Unit {0}) (to : Point). map_read (λ (b : Option (Unit {0}) × LitItem). (a, b)) (both (maybe (passes (sign marks.Not)) (one (sign marks.Not))) (read_item_of n) to)))) first
+    ∙ two_steps (maybe (passes (sign marks.Not)) (one (sign marks.Not)) middle) (read_item_of n) nots later second

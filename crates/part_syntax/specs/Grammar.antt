@@ -25,46 +25,11 @@ use Rattle.tel_rule.specs.declared.statements.Kind.TheVariants as kinds
 use Rattle.tel_rule.specs.declared.statements.Statement.{Statement}
 use Rattle.formula_syntax.specs.declared.marks.Mark.TheVariants as marks
 use Rattle.formula_syntax.specs.Points.{Word, Known, Point, at}
-use Rattle.formula_syntax.specs.Senses.{Sense, Name, Not, Number, Program, Const, Show, Sign, sense, number_of}
+use Rattle.formula_syntax.specs.Senses.{Sense, Name, Number, Sign, sense, number_of}
 use Rattle.formula_syntax.specs.Shapes.{Grammar, One, Then, Made, Either, Each, AtMost, Maybe, After}
-use Rattle.formula_syntax.specs.Grammar.{by_itself, plain, minus, opening, closing, comma, ampersand, name, further_arguments, behind_all, is_there, count, SignRead, IsSign, IsExpr, IsAtom, IsFormula}
+use Rattle.formula_syntax.specs.Grammar.{by_itself, plain, sign, name, further_arguments, behind_all, is_there, count, SignRead, IsSign, IsExpr, IsAtom, IsFormula}
 
 -- ---- words
-
-abbrev pub is_not : Sense → Bool
-is_not Not = true
-is_not said = false
-
-abbrev pub not_word : Word → Option (Known → Unit {0} × Known)
-not_word word = plain (is_not (sense word))
-
-abbrev pub is_if : Sense → Bool
-is_if (Sign marks.If) = true
-is_if said = false
-
-abbrev pub if_sign : Word → Option (Known → Unit {0} × Known)
-if_sign word = plain (is_if (sense word))
-
-abbrev pub is_stop : Sense → Bool
-is_stop (Sign marks.Stop) = true
-is_stop said = false
-
-abbrev pub stop : Word → Option (Known → Unit {0} × Known)
-stop word = plain (is_stop (sense word))
-
-abbrev pub is_dots : Sense → Bool
-is_dots (Sign marks.Dots) = true
-is_dots said = false
-
-abbrev pub dots : Word → Option (Known → Unit {0} × Known)
-dots word = plain (is_dots (sense word))
-
-abbrev pub is_semicolon : Sense → Bool
-is_semicolon (Sign marks.Semicolon) = true
-is_semicolon said = false
-
-abbrev pub semicolon : Word → Option (Known → Unit {0} × Known)
-semicolon word = plain (is_semicolon (sense word))
 
 -- a comma or a semicolon
 abbrev pub is_separator : Sense → Bool
@@ -74,55 +39,6 @@ is_separator said = false
 
 abbrev pub separator : Word → Option (Known → Unit {0} × Known)
 separator word = plain (is_separator (sense word))
-
-abbrev pub is_open_brace : Sense → Bool
-is_open_brace (Sign marks.OpenBrace) = true
-is_open_brace said = false
-
-abbrev pub open_brace : Word → Option (Known → Unit {0} × Known)
-open_brace word = plain (is_open_brace (sense word))
-
-abbrev pub is_close_brace : Sense → Bool
-is_close_brace (Sign marks.CloseBrace) = true
-is_close_brace said = false
-
-abbrev pub close_brace : Word → Option (Known → Unit {0} × Known)
-close_brace word = plain (is_close_brace (sense word))
-
-abbrev pub is_equal : Sense → Bool
-is_equal (Sign marks.Equal) = true
-is_equal said = false
-
-abbrev pub equal : Word → Option (Known → Unit {0} × Known)
-equal word = plain (is_equal (sense word))
-
-abbrev pub is_slash : Sense → Bool
-is_slash (Sign marks.Slash) = true
-is_slash said = false
-
-abbrev pub slash : Word → Option (Known → Unit {0} × Known)
-slash word = plain (is_slash (sense word))
-
-abbrev pub is_program : Sense → Bool
-is_program Program = true
-is_program said = false
-
-abbrev pub program_word : Word → Option (Known → Unit {0} × Known)
-program_word word = plain (is_program (sense word))
-
-abbrev pub is_const : Sense → Bool
-is_const Const = true
-is_const said = false
-
-abbrev pub const_word : Word → Option (Known → Unit {0} × Known)
-const_word word = plain (is_const (sense word))
-
-abbrev pub is_show : Sense → Bool
-is_show Show = true
-is_show said = false
-
-abbrev pub show_word : Word → Option (Known → Unit {0} × Known)
-show_word word = plain (is_show (sense word))
 
 abbrev pub is_tel : Sense → Bool
 is_tel (Name text) = bytes_eq text (codes "tel")
@@ -175,7 +91,7 @@ tel_of read = items.Tel read.1.1.1.0
 
 -- tel = "&" "tel" "{" formula "}"
 abbrev pub IsTel : ℕ → Grammar LitItem
-IsTel n = Made tel_of (Then (One ampersand) (Then (One tel_word) (Then (One open_brace) (Then (IsFormula (suc n)) (One close_brace)))))
+IsTel n = Made tel_of (Then (One (sign marks.Ampersand)) (Then (One tel_word) (Then (One (sign marks.OpenBrace)) (Then (IsFormula (suc n)) (One (sign marks.CloseBrace))))))
 
 abbrev pub compare_of : Expr × (Relation × Expr) → LitItem
 compare_of read = items.Compare read.1.0 read.0 read.1.1
@@ -193,7 +109,7 @@ negated_of read = literal (1 + count read.1.0) read.1.1
 -- literal = [ "not" [ "not" ] ] ( tel | atom ) | comparison
 abbrev pub IsLiteral : ℕ → Grammar Literal
 IsLiteral n =
-    Either (Made negated_of (Then (One not_word) (Then (Maybe (One not_word)) (Either (IsTel n) (IsAtomItem n)))))
+    Either (Made negated_of (Then (One (sign marks.Not)) (Then (Maybe (One (sign marks.Not))) (Either (IsTel n) (IsAtomItem n)))))
     (Made (literal 0) (Either (IsTel n) (Either (IsAtomItem n) (IsComparison n))))
 
 abbrev pub chain_of : {A B : Type 0} → B × List (A × B) → List B
@@ -209,7 +125,7 @@ body_of (sign, (None, end)) = []
 
 -- tail = ":-" [ body ] "."
 abbrev pub IsTail : ℕ → Grammar (List Literal)
-IsTail n = Made body_of (Then (One if_sign) (Then (Maybe (IsBody n)) (One stop)))
+IsTail n = Made body_of (Then (One (sign marks.If)) (Then (Maybe (IsBody n)) (One (sign marks.Stop))))
 
 -- ---- facts
 
@@ -219,18 +135,18 @@ arg_of (first, Some last) = args.Range first last.1
 
 -- arg = expr [ ".." expr ]
 abbrev pub IsArg : ℕ → Grammar Arg
-IsArg n = Made arg_of (Then (IsExpr (suc n)) (Maybe (Then (One dots) (IsExpr (suc n)))))
+IsArg n = Made arg_of (Then (IsExpr (suc n)) (Maybe (Then (One (sign marks.Dots)) (IsExpr (suc n)))))
 
 -- tuple = arg { "," arg }, with at most eight arguments
 abbrev pub IsTuple : ℕ → Grammar (List Arg)
-IsTuple n = Made chain_of (Then (IsArg n) (AtMost further_arguments (Then (One comma) (IsArg n))))
+IsTuple n = Made chain_of (Then (IsArg n) (AtMost further_arguments (Then (One (sign marks.Comma)) (IsArg n))))
 
 abbrev pub tuples_of : Unit {0} × (List Arg × (List (Unit {0} × List Arg) × Unit {0})) → List (List Arg)
 tuples_of read = read.1.0 ∷ behind_all read.1.1.0
 
 -- "(" tuple { ";" tuple } ")"
 abbrev pub IsTuples : ℕ → Grammar (List (List Arg))
-IsTuples n = Made tuples_of (Then (One opening) (Then (IsTuple n) (Then (Each (Then (One semicolon) (IsTuple n))) (One closing))))
+IsTuples n = Made tuples_of (Then (One (sign marks.Open)) (Then (IsTuple n) (Then (Each (Then (One (sign marks.Semicolon)) (IsTuple n))) (One (sign marks.Close)))))
 
 abbrev pub tuples_or_one : Option (List (List Arg)) → List (List Arg)
 tuples_or_one None = [] ∷ []
@@ -283,8 +199,8 @@ rule_item head body = Says (kinds.Rule head body)
 
 -- what stands behind facts: a stop, or the tail of a rule, where they are its head
 abbrev pub BehindFacts : ℕ → Fact → Option Head → Grammar Item
-BehindFacts n fact None = Made (fact_item fact) (One stop)
-BehindFacts n fact (Some head) = Either (Made (fact_item fact) (One stop)) (Made (rule_item head) (IsTail n))
+BehindFacts n fact None = Made (fact_item fact) (One (sign marks.Stop))
+BehindFacts n fact (Some head) = Either (Made (fact_item fact) (One (sign marks.Stop))) (Made (rule_item head) (IsTail n))
 
 -- facts "." | atom tail
 abbrev pub IsFactOrRule : ℕ → Grammar Item
@@ -295,7 +211,7 @@ braced read = heads.Choice read.1.0
 
 -- choice = "{" atom "}"
 abbrev pub IsChoice : ℕ → Grammar Head
-IsChoice n = Made braced (Then (One open_brace) (Then (IsAtom (suc n)) (One close_brace)))
+IsChoice n = Made braced (Then (One (sign marks.OpenBrace)) (Then (IsAtom (suc n)) (One (sign marks.CloseBrace))))
 
 abbrev pub no_body : Unit {0} → List Literal
 no_body end = []
@@ -305,7 +221,7 @@ choice_item read = rule_item read.0 read.1
 
 -- choice "." | choice tail
 abbrev pub IsChoiceRule : ℕ → Grammar Item
-IsChoiceRule n = Made choice_item (Then (IsChoice n) (Either (Made no_body (One stop)) (IsTail n)))
+IsChoiceRule n = Made choice_item (Then (IsChoice n) (Either (Made no_body (One (sign marks.Stop))) (IsTail n)))
 
 -- a constraint: the tail of a rule without a head
 abbrev pub IsConstraint : ℕ → Grammar Item
@@ -316,28 +232,28 @@ part_item read = InPart read.1.0
 
 -- "#program" ("initial" | "dynamic" | "always" | "final") "."
 abbrev pub IsPartItem : Grammar Item
-IsPartItem = Made part_item (Then (One program_word) (Then (One part) (One stop)))
+IsPartItem = Made part_item (Then (One (sign marks.Program)) (Then (One part) (One (sign marks.Stop))))
 
 abbrev pub const_item : Unit {0} × (List ℕ × (Unit {0} × (Expr × Unit {0}))) → Item
 const_item read = Says (kinds.Const read.1.0 read.1.1.1.0)
 
 -- "#const" name "=" expr "."
 abbrev pub IsConstItem : ℕ → Grammar Item
-IsConstItem n = Made const_item (Then (One const_word) (Then (One name) (Then (One equal) (Then (IsExpr (suc n)) (One stop)))))
+IsConstItem n = Made const_item (Then (One (sign marks.Const)) (Then (One name) (Then (One (sign marks.Equal)) (Then (IsExpr (suc n)) (One (sign marks.Stop))))))
 
 abbrev pub signature_of : Option (Unit {0}) × (List ℕ × (Unit {0} × ℕ)) → Signature
 signature_of read = record { negative = is_there read.0; name = read.1.0; arity = read.1.1.1 }
 
 -- signature = [ "-" ] name "/" number
 abbrev pub IsSignature : Grammar Signature
-IsSignature = Made signature_of (Then (Maybe (One minus)) (Then (One name) (Then (One slash) (One arity))))
+IsSignature = Made signature_of (Then (Maybe (One (sign marks.Minus))) (Then (One name) (Then (One (sign marks.Slash)) (One arity))))
 
 abbrev pub show_item : Unit {0} × (Option Signature × Unit {0}) → Item
 show_item read = Says (kinds.Show read.1.0)
 
 -- "#show" [ signature ] "."
 abbrev pub IsShowItem : Grammar Item
-IsShowItem = Made show_item (Then (One show_word) (Then (Maybe IsSignature) (One stop)))
+IsShowItem = Made show_item (Then (One (sign marks.Show)) (Then (Maybe IsSignature) (One (sign marks.Stop))))
 
 -- an item of a text
 abbrev pub IsItem : ℕ → Grammar Item

@@ -1,6 +1,6 @@
 ghost use Rattle.std.specs.Prelude.{◌≡◌};
 ghost use Rattle.formula_syntax.specs.Steps.{one, both, maybe, made, each, at_most, passes};
-ghost use Rattle.formula_syntax.specs.Grammar.{behind, comma, opening, closing};
+ghost use Rattle.formula_syntax.specs.Grammar.{behind, sign};
 ghost use Rattle.formula_syntax.specs.Given.{Reads};
 ghost use Rattle.part_syntax.specs.Grammar as grammar;
 ghost use Rattle.part_syntax.specs.Reading as readers;
@@ -8,7 +8,7 @@ ghost use Rattle.part_syntax.specs.Given.{IsFrugal, first_of};
 
 use crate::literals::expr;
 use crate::words;
-use formula_syntax::{Reading, Stop, primes};
+use formula_syntax::{Mark, Reading, Stop, primes};
 use sqlite_items::Items;
 use tel_base::Text;
 use tel_rule::{Arg, Fact};
@@ -22,34 +22,33 @@ fn arg(reading: &mut Reading, levels: u8) -> Result<Arg, Stop>
     ensures room { IsFrugal reading.old reading.new }
 {
     let first = expr(reading, levels)?;
-    if !words::at_dots(reading) {
+    if !reading.take(Mark::Dots) {
         return Ok(Arg::One(first));
     }
-    words::dots(reading)?;
     let last = expr(reading, levels)?;
     Ok(Arg::Range(first, last))
 }
 
 /// The next argument of a tuple, behind its comma.
 fn next_arg(reading: &mut Reading, levels: u8) -> Result<Arg, Stop>
-    ensures reads { Reads (made behind (both (one comma) (readers.read_arg levels)) reading.old) result reading.new }
+    ensures reads { Reads (made behind (both (one (sign Mark.Comma)) (readers.read_arg levels)) reading.old) result reading.new }
     ensures room { IsFrugal reading.old reading.new }
 {
-    words::comma(reading)?;
+    words::expect(reading, Mark::Comma)?;
     arg(reading, levels)
 }
 
 /// A tuple of at most so many arguments behind the first one.
 fn tuple_within(reading: &mut Reading, levels: u8, most: usize) -> Result<Items<Arg>, Stop>
     ensures reads { Reads (made grammar.chain_of (both (readers.read_arg levels)
-        (at_most most (passes comma) (both (one comma) (readers.read_arg levels)))) reading.old) result reading.new }
+        (at_most most (passes (sign Mark.Comma)) (both (one (sign Mark.Comma)) (readers.read_arg levels)))) reading.old) result reading.new }
     ensures room { IsFrugal reading.old reading.new }
 {
     let mut tuple = Items::new(reading.alloc);
     let first = arg(reading, levels)?;
     tuple.push(first)?;
     for _turn in 0..most {
-        if !words::at_comma(reading) {
+        if !reading.sees(Mark::Comma) {
             return Ok(tuple);
         }
         let next = next_arg(reading, levels)?;
@@ -68,24 +67,24 @@ fn tuple(reading: &mut Reading, levels: u8) -> Result<Items<Arg>, Stop>
 
 /// The next tuple of a fact, behind its semicolon.
 fn next_tuple(reading: &mut Reading, levels: u8) -> Result<Items<Arg>, Stop>
-    ensures reads { Reads (made behind (both (one grammar.semicolon) (readers.read_tuple levels)) reading.old) result reading.new }
+    ensures reads { Reads (made behind (both (one (sign Mark.Semicolon)) (readers.read_tuple levels)) reading.old) result reading.new }
     ensures room { IsFrugal reading.old reading.new }
 {
-    words::semicolon(reading)?;
+    words::expect(reading, Mark::Semicolon)?;
     tuple(reading, levels)
 }
 
 /// The tuples of a fact, at least one.
 fn open_tuples(reading: &mut Reading, levels: u8) -> Result<Items<Items<Arg>>, Stop>
     ensures reads { Reads (made grammar.chain_of (both (readers.read_tuple levels)
-        (each (passes grammar.semicolon) (both (one grammar.semicolon) (readers.read_tuple levels)))) reading.old) result reading.new }
+        (each (passes (sign Mark.Semicolon)) (both (one (sign Mark.Semicolon)) (readers.read_tuple levels)))) reading.old) result reading.new }
     ensures room { IsFrugal reading.old reading.new }
 {
     let mut tuples = Items::new(reading.alloc);
     let first = tuple(reading, levels)?;
     tuples.push(first)?;
     for _turn in 0..reading.left() {
-        if !words::at_semicolon(reading) {
+        if !reading.sees(Mark::Semicolon) {
             return Ok(tuples);
         }
         let next = next_tuple(reading, levels)?;
@@ -97,11 +96,11 @@ fn open_tuples(reading: &mut Reading, levels: u8) -> Result<Items<Items<Arg>>, S
 /// The tuples of a fact and the bracket behind them.
 fn closed_tuples(reading: &mut Reading, levels: u8) -> Result<Items<Items<Arg>>, Stop>
     ensures reads { Reads (made first_of (both (made grammar.chain_of (both (readers.read_tuple levels)
-        (each (passes grammar.semicolon) (both (one grammar.semicolon) (readers.read_tuple levels))))) (one closing)) reading.old) result reading.new }
+        (each (passes (sign Mark.Semicolon)) (both (one (sign Mark.Semicolon)) (readers.read_tuple levels))))) (one (sign Mark.Close))) reading.old) result reading.new }
     ensures room { IsFrugal reading.old reading.new }
 {
     let tuples = open_tuples(reading, levels)?;
-    words::closing(reading)?;
+    words::expect(reading, Mark::Close)?;
     Ok(tuples)
 }
 
@@ -110,16 +109,16 @@ fn tuples(reading: &mut Reading, levels: u8) -> Result<Items<Items<Arg>>, Stop>
     ensures reads { Reads (readers.read_tuples levels reading.old) result reading.new }
     ensures room { IsFrugal reading.old reading.new }
 {
-    words::opening(reading)?;
+    words::expect(reading, Mark::Open)?;
     closed_tuples(reading, levels)
 }
 
 /// The tuples of a fact: one without arguments where no bracket opens.
 fn tuples_or_one(reading: &mut Reading, levels: u8) -> Result<Items<Items<Arg>>, Stop>
-    ensures reads { Reads (made grammar.tuples_or_one (maybe (passes opening) (readers.read_tuples levels)) reading.old) result reading.new }
+    ensures reads { Reads (made grammar.tuples_or_one (maybe (passes (sign Mark.Open)) (readers.read_tuples levels)) reading.old) result reading.new }
     ensures room { IsFrugal reading.old reading.new }
 {
-    if words::at_opening(reading) {
+    if reading.sees(Mark::Open) {
         return tuples(reading, levels);
     }
     let mut tuples = Items::new(reading.alloc);

@@ -2,6 +2,7 @@ ghost use Rattle.std.specs.Prelude.{◌≡◌};
 ghost use Rattle.formula_syntax.specs.Points.{begins};
 ghost use Rattle.formula_syntax.specs.Reading as formulas;
 ghost use Rattle.formula_syntax.specs.Steps.{one, maybe, either, made, passes};
+ghost use Rattle.formula_syntax.specs.Grammar.{sign};
 ghost use Rattle.formula_syntax.specs.Given.{Reads};
 ghost use Rattle.part_syntax.specs.Grammar as grammar;
 ghost use Rattle.part_syntax.specs.Reading as readers;
@@ -27,9 +28,9 @@ fn part_item(reading: &mut Reading) -> Result<Item, Stop>
     ensures reads { ReadsItem (readers.read_part_item reading.old) result reading.new }
     ensures room { IsFrugal reading.old reading.new }
 {
-    words::program_word(reading)?;
+    words::expect(reading, Mark::Program)?;
     let part = words::part(reading)?;
-    words::full_stop(reading)?;
+    words::expect(reading, Mark::Stop)?;
     Ok(Item::InPart(part))
 }
 
@@ -38,9 +39,9 @@ fn signature(reading: &mut Reading) -> Result<Signature, Stop>
     ensures reads { Reads (readers.read_signature reading.old) result reading.new }
     ensures room { IsFrugal reading.old reading.new }
 {
-    let negative = reading.minus();
+    let negative = reading.take(Mark::Minus);
     let name = words::name(reading)?;
-    words::slash(reading)?;
+    words::expect(reading, Mark::Slash)?;
     let arity = words::arity(reading)?;
     Ok(Signature {
         negative,
@@ -54,7 +55,7 @@ fn shown(reading: &mut Reading) -> Result<Option<Signature>, Stop>
     ensures reads { Reads (maybe readers.starts_signature readers.read_signature reading.old) result reading.new }
     ensures room { IsFrugal reading.old reading.new }
 {
-    if words::at_minus(reading) || words::at_name(reading) {
+    if reading.sees(Mark::Minus) || words::at_name(reading) {
         let signature = signature(reading)?;
         Ok(Some(signature))
     } else {
@@ -67,9 +68,9 @@ fn show_item(reading: &mut Reading) -> Result<Item, Stop>
     ensures reads { ReadsItem (readers.read_show_item reading.old) result reading.new }
     ensures room { IsFrugal reading.old reading.new }
 {
-    words::show_word(reading)?;
+    words::expect(reading, Mark::Show)?;
     let shown = shown(reading)?;
-    words::full_stop(reading)?;
+    words::expect(reading, Mark::Stop)?;
     Ok(Item::Says(Kind::Show(shown)))
 }
 
@@ -78,11 +79,11 @@ fn const_item(reading: &mut Reading, levels: u8) -> Result<Item, Stop>
     ensures reads { ReadsItem (readers.read_const_item levels reading.old) result reading.new }
     ensures room { IsFrugal reading.old reading.new }
 {
-    words::const_word(reading)?;
+    words::expect(reading, Mark::Const)?;
     let name = words::name(reading)?;
-    words::equal(reading)?;
+    words::expect(reading, Mark::Equal)?;
     let value = expr(reading, levels)?;
-    words::full_stop(reading)?;
+    words::expect(reading, Mark::Stop)?;
     Ok(Item::Says(Kind::Const(name, value)))
 }
 
@@ -91,8 +92,8 @@ fn behind_facts(reading: &mut Reading, levels: u8, fact: Fact) -> Result<Item, S
     ensures reads { ReadsItem (readers.read_behind levels fact (grammar.head_of fact) reading.old) result reading.new }
     ensures room { IsFrugal reading.old reading.new }
 {
-    if words::at_full_stop(reading) {
-        words::full_stop(reading)?;
+    if reading.sees(Mark::Stop) {
+        words::expect(reading, Mark::Stop)?;
         return Ok(Item::Says(Kind::Facts(fact)));
     }
     match head_of(reading.alloc, fact)? {
@@ -118,19 +119,18 @@ fn choice(reading: &mut Reading, levels: u8) -> Result<Head, Stop>
     ensures reads { Reads (readers.read_choice levels reading.old) result reading.new }
     ensures room { IsFrugal reading.old reading.new }
 {
-    words::open_brace(reading)?;
+    words::expect(reading, Mark::OpenBrace)?;
     let atom = atom(reading, levels)?;
-    words::close_brace(reading)?;
+    words::expect(reading, Mark::CloseBrace)?;
     Ok(Head::Choice(atom))
 }
 
 /// What stands behind the head of a choice: a stop, or the tail of a rule.
 fn choice_body(reading: &mut Reading, levels: u8) -> Result<Items<Literal>, Stop>
-    ensures reads { Reads (either (passes grammar.stop) (made grammar.no_body (one grammar.stop)) (readers.read_tail levels) reading.old) result reading.new }
+    ensures reads { Reads (either (passes (sign Mark.Stop)) (made grammar.no_body (one (sign Mark.Stop))) (readers.read_tail levels) reading.old) result reading.new }
     ensures room { IsFrugal reading.old reading.new }
 {
-    if words::at_full_stop(reading) {
-        words::full_stop(reading)?;
+    if reading.take(Mark::Stop) {
         return Ok(Items::new(reading.alloc));
     }
     tail(reading, levels)
@@ -167,13 +167,13 @@ fn at_atom(reading: &Reading) -> bool
 
 /// A directive.
 fn directive(reading: &mut Reading, levels: u8) -> Result<Item, Stop>
-    ensures reads { ReadsItem (either (passes grammar.program_word) readers.read_part_item
-        (either (passes grammar.const_word) (readers.read_const_item levels) readers.read_show_item) reading.old) result reading.new }
+    ensures reads { ReadsItem (either (passes (sign Mark.Program)) readers.read_part_item
+        (either (passes (sign Mark.Const)) (readers.read_const_item levels) readers.read_show_item) reading.old) result reading.new }
     ensures room { IsFrugal reading.old reading.new }
 {
-    if words::at_program_word(reading) {
+    if reading.sees(Mark::Program) {
         part_item(reading)
-    } else if words::at_const_word(reading) {
+    } else if reading.sees(Mark::Const) {
         const_item(reading, levels)
     } else {
         show_item(reading)
@@ -187,9 +187,9 @@ pub fn next_item(reading: &mut Reading, levels: u8) -> Result<Item, Stop>
 {
     if at_atom(reading) {
         fact_or_rule(reading, levels)
-    } else if words::at_open_brace(reading) {
+    } else if reading.sees(Mark::OpenBrace) {
         choice_rule(reading, levels)
-    } else if words::at_if_sign(reading) {
+    } else if reading.sees(Mark::If) {
         constraint(reading, levels)
     } else {
         directive(reading, levels)
@@ -204,10 +204,15 @@ pub fn at_item(reading: &Reading) -> bool
         reading.peek(),
         Some(
             Sense::Name(_)
-                | Sense::Sign(Mark::Minus | Mark::Prime | Mark::OpenBrace | Mark::If)
-                | Sense::Program
-                | Sense::Const
-                | Sense::Show
+                | Sense::Sign(
+                    Mark::Minus
+                        | Mark::Prime
+                        | Mark::OpenBrace
+                        | Mark::If
+                        | Mark::Program
+                        | Mark::Const
+                        | Mark::Show
+                )
         )
     )
 }

@@ -2,7 +2,7 @@ ghost use Rattle.std.specs.Prelude.{◌≡◌, ◌+◌, ◌≤◌, suc, true, fa
 ghost use Rattle.formula_syntax.specs.Points.{words_of, begins};
 ghost use Rattle.formula_syntax.specs.Steps.{Got, one, both, maybe, made, passes, either};
 ghost use Rattle.formula_syntax.specs.Reading as formulas;
-ghost use Rattle.formula_syntax.specs.Grammar.{ampersand, count, behind};
+ghost use Rattle.formula_syntax.specs.Grammar.{sign, count, behind};
 ghost use Rattle.formula_syntax.specs.Given.{Reads};
 ghost use Rattle.part_syntax.specs.Grammar as grammar;
 ghost use Rattle.part_syntax.specs.Reading as readers;
@@ -44,11 +44,11 @@ fn tel(reading: &mut Reading, levels: u8) -> Result<LitItem, Stop>
     ensures reads { Reads (readers.read_tel levels reading.old) result reading.new }
     ensures room { IsFrugal reading.old reading.new }
 {
-    words::ampersand(reading)?;
+    words::expect(reading, Mark::Ampersand)?;
     words::tel_word(reading)?;
-    words::open_brace(reading)?;
+    words::expect(reading, Mark::OpenBrace)?;
     let formula = formula(reading, levels)?;
-    words::close_brace(reading)?;
+    words::expect(reading, Mark::CloseBrace)?;
     Ok(LitItem::Tel(formula))
 }
 
@@ -144,7 +144,7 @@ fn negated_item(reading: &mut Reading, levels: u8) -> Result<LitItem, Stop>
     ensures reads { Reads (readers.read_item_of levels reading.old) result reading.new }
     ensures room { IsFrugal reading.old reading.new }
 {
-    if words::at_ampersand(reading) {
+    if reading.sees(Mark::Ampersand) {
         tel(reading, levels)
     } else {
         atom_item(reading, levels)
@@ -153,11 +153,11 @@ fn negated_item(reading: &mut Reading, levels: u8) -> Result<LitItem, Stop>
 
 /// How many `not` stand here, up to one.
 fn further_nots(reading: &mut Reading) -> u32
-    ensures reads { made count (maybe (passes grammar.not_word) (one grammar.not_word)) reading.old ≡ Got result reading.new }
+    ensures reads { made count (maybe (passes (sign Mark.Not)) (one (sign Mark.Not))) reading.old ≡ Got result reading.new }
     ensures few { result ≤ 1 }
     ensures room { IsFrugal reading.old reading.new }
 {
-    if words::at_not_word(reading) {
+    if reading.sees(Mark::Not) {
         reading.skip();
         1
     } else {
@@ -170,7 +170,7 @@ fn negated(reading: &mut Reading, levels: u8) -> Result<Literal, Stop>
     ensures reads { Reads (readers.read_negated levels reading.old) result reading.new }
     ensures room { IsFrugal reading.old reading.new }
 {
-    words::not_word(reading)?;
+    words::expect(reading, Mark::Not)?;
     let further = further_nots(reading);
     let item = negated_item(reading, levels)?;
     Ok(Literal {
@@ -181,10 +181,10 @@ fn negated(reading: &mut Reading, levels: u8) -> Result<Literal, Stop>
 
 /// What a literal without `not` speaks of.
 fn item(reading: &mut Reading, levels: u8) -> Result<LitItem, Stop>
-    ensures reads { Reads (either (passes ampersand) (readers.read_tel levels) (readers.read_plain levels) reading.old) result reading.new }
+    ensures reads { Reads (either (passes (sign Mark.Ampersand)) (readers.read_tel levels) (readers.read_plain levels) reading.old) result reading.new }
     ensures room { IsFrugal reading.old reading.new }
 {
-    if words::at_ampersand(reading) {
+    if reading.sees(Mark::Ampersand) {
         tel(reading, levels)
     } else {
         plain_item(reading, levels)
@@ -196,7 +196,7 @@ fn literal(reading: &mut Reading, levels: u8) -> Result<Literal, Stop>
     ensures reads { Reads (readers.read_literal levels reading.old) result reading.new }
     ensures room { IsFrugal reading.old reading.new }
 {
-    if words::at_not_word(reading) {
+    if reading.sees(Mark::Not) {
         return negated(reading, levels);
     }
     let item = item(reading, levels)?;
@@ -232,17 +232,17 @@ fn body(reading: &mut Reading, levels: u8) -> Result<Items<Literal>, Stop>
 
 /// The literals of a body and the stop behind them.
 fn stopped_body(reading: &mut Reading, levels: u8) -> Result<Items<Literal>, Stop>
-    ensures reads { Reads (made first_of (both (readers.read_body levels) (one grammar.stop)) reading.old) result reading.new }
+    ensures reads { Reads (made first_of (both (readers.read_body levels) (one (sign Mark.Stop))) reading.old) result reading.new }
     ensures room { IsFrugal reading.old reading.new }
 {
     let body = body(reading, levels)?;
-    words::full_stop(reading)?;
+    words::expect(reading, Mark::Stop)?;
     Ok(body)
 }
 
 /// Whether a stop comes next, where no literal begins.
 fn ends_body(reading: &Reading) -> bool
-    ensures stop { result ≡ begins (passes grammar.stop) reading.now.words }
+    ensures stop { result ≡ begins (passes (sign Mark.Stop)) reading.now.words }
     ensures none { result ≡ true → begins readers.starts_literal reading.now.words ≡ false }
 {
     matches!(reading.peek(), Some(Sense::Sign(Mark::Stop)))
@@ -250,11 +250,11 @@ fn ends_body(reading: &Reading) -> bool
 
 /// The literals of a body, or none, and the stop behind them.
 fn body_or_none(reading: &mut Reading, levels: u8) -> Result<Items<Literal>, Stop>
-    ensures reads { Reads (made body_or_none (both (maybe readers.starts_literal (readers.read_body levels)) (one grammar.stop)) reading.old) result reading.new }
+    ensures reads { Reads (made body_or_none (both (maybe readers.starts_literal (readers.read_body levels)) (one (sign Mark.Stop))) reading.old) result reading.new }
     ensures room { IsFrugal reading.old reading.new }
 {
     if ends_body(reading) {
-        words::full_stop(reading)?;
+        words::expect(reading, Mark::Stop)?;
         return Ok(Items::new(reading.alloc));
     }
     stopped_body(reading, levels)
@@ -265,6 +265,6 @@ pub fn tail(reading: &mut Reading, levels: u8) -> Result<Items<Literal>, Stop>
     ensures reads { Reads (readers.read_tail levels reading.old) result reading.new }
     ensures room { IsFrugal reading.old reading.new }
 {
-    words::if_sign(reading)?;
+    words::expect(reading, Mark::If)?;
     body_or_none(reading, levels)
 }

@@ -72,8 +72,11 @@ value-returns-clause-reads t c =
     let e = value_nested c.args.levels (c.args.levels - 1) c.args.self.now c.leaf.new.self (omega arith) (rw c.in-None.is at c.in_ok-leaf.ensures.reads) in
     rw e c.nested_value.ensures.reads
 
-pub bracketed_expr-returns-in_err-close-clause-onward : goal.bracketed_expr-returns-in_err-close-clause-onward
-bracketed_expr-returns-in_err-close-clause-onward t c = onward_then c.opening.ensures.onward (onward_then c.in_ok-inner.ensures.onward c.in_err-close.ensures.onward)
+pub bracketed_expr-returns-in_err-expect-clause-onward : goal.bracketed_expr-returns-in_err-expect-clause-onward
+bracketed_expr-returns-in_err-expect-clause-onward t c = onward_then c.take.ensures.onward (onward_then c.in_ok-inner.ensures.onward c.in_err-expect.ensures.onward)
 
 pub bracketed_expr-returns-clause-onward : goal.bracketed_expr-returns-clause-onward
-bracketed_expr-returns-clause-onward t c = onward_then c.opening.ensures.onward (onward_then c.in_ok-inner.ensures.onward c.in_ok-close.ensures.onward)
+bracketed_expr-returns-clause-onward t c = onward_then c.take.ensures.onward (onward_then c.in_ok-inner.ensures.onward c.in_ok-expect.ensures.onward)
+
+pub value-returns-clause-onward : goal.value-returns-clause-onward
+value-returns-clause-onward t c = onward_then c.in_ok-leaf.ensures.onward c.nested_value.ensures.onward

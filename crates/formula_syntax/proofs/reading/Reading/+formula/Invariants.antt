@@ -1,6 +1,7 @@
+use Rattle.formula_syntax.specs.declared.marks.Mark.TheVariants as marks
 use Rattle.std.proofs.Common.{◌≡◌, ◌+◌, ◌-◌, ◌*◌}
 use Rattle.formula_syntax.specs.Steps.{one, both, each, passes}
-use Rattle.formula_syntax.specs.Grammar.{ampersand, bar}
+use Rattle.formula_syntax.specs.Grammar.{sign}
 use Rattle.formula_syntax.specs.Reading.{read_unary, read_pair, read_and}
 use Rattle.formula_syntax.specs.Given.{Onward}
 use Rattle.formula_syntax.proofs.Gathers.{gathered, tied}
@@ -35,12 +36,12 @@ decreases-nested_unary l = 9 * l.levels + 8
 
 abbrev pub invariant-conjuncts-loop-turn : goal.invariant-conjuncts-loop-turn
 invariant-conjuncts-loop-turn l = record {
-  reads : gathered l.fn.all (each (passes ampersand) (both (one ampersand) (read_pair (read_unary l.levels))) l.fn.self) ≡ gathered l.all (tied ampersand (read_pair (read_unary l.levels)) (l._turn-end - l._turn) l.self);
+  reads : gathered l.fn.all (each (passes (sign marks.Ampersand)) (both (one (sign marks.Ampersand)) (read_pair (read_unary l.levels))) l.fn.self) ≡ gathered l.all (tied (sign marks.Ampersand) (read_pair (read_unary l.levels)) (l._turn-end - l._turn) l.self);
   onward : Onward l.fn.self l.self;
 }
 
 abbrev pub invariant-disjuncts-loop-turn : goal.invariant-disjuncts-loop-turn
 invariant-disjuncts-loop-turn l = record {
-  reads : gathered l.fn.all (each (passes bar) (both (one bar) (read_and (read_pair (read_unary l.levels)))) l.fn.self) ≡ gathered l.all (tied bar (read_and (read_pair (read_unary l.levels))) (l._turn-end - l._turn) l.self);
+  reads : gathered l.fn.all (each (passes (sign marks.Bar)) (both (one (sign marks.Bar)) (read_and (read_pair (read_unary l.levels)))) l.fn.self) ≡ gathered l.all (tied (sign marks.Bar) (read_and (read_pair (read_unary l.levels))) (l._turn-end - l._turn) l.self);
   onward : Onward l.fn.self l.self;
 }
