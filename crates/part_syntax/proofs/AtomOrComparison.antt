@@ -10,7 +10,7 @@ use Rattle.tel_term.specs.declared.exprs.Expr.{Expr}
 use Rattle.formula_syntax.specs.declared.marks.Mark.TheVariants as marks
 use Rattle.formula_syntax.specs.Points.{Word, Known, Point, at, begins}
 use Rattle.formula_syntax.specs.Senses.{Sense, Name, Variable, Blank, Number, Str, Sign, sense}
-use Rattle.formula_syntax.specs.Shapes.{Grammar, One, Then, Either, Each, Maybe}
+use Rattle.formula_syntax.specs.Shapes.{Grammar, One, Then, Each, Maybe}
 use Rattle.formula_syntax.specs.Steps.{Unexpected, Deep, Read, Got, Stuck, Reader, rest_of, and_then, give, map_read, made, one, both, each, maybe, passes, or_also}
 use Rattle.formula_syntax.specs.Grammar.{plain, by_itself, leaf, leaf_of, name, name_of, product_op, product_op_of, sum_op, sum_op_of, negative_of, product_of, sum_of, SignRead, IsSign, atom_of, IsValue, IsExpr, IsAtom, ProductOf, ArgsOf, sign, is_sign}
 use Rattle.formula_syntax.specs.Reading.{read_value, read_product, read_negative, read_expr, read_sign, read_args, read_atom, starts_atom}
@@ -20,7 +20,7 @@ use Rattle.formula_syntax.proofs.Nonterminals.{Known_by, Lifts, Apart, Passing, 
 use Rattle.part_syntax.proofs.ReadBy.{Read_by}
 use Rattle.formula_syntax.proofs.Families.{minus-leaf_of, starts_value, more_sum, value-known, expr-known, expr-lifts, passing-product_op, sums-optional, sign_word, not-sum, passing-sign}
 use Rattle.formula_syntax.proofs.FormulaFamilies.{prime-name_of, minus-name_of, more_atom, atom-known, atom-lifts, primed-known, args-optional}
-use Rattle.part_syntax.specs.Grammar.{relation, relation_of, compare_of, IsAtomItem, IsComparison}
+use Rattle.part_syntax.specs.Grammar.{relation, relation_of, compare_of, IsAtomItem, IsComparison, IsPlain}
 use Rattle.part_syntax.specs.Reading.{starts_plain, goes_on, compares_behind, compares, read_plain, read_atom_item, read_comparison}
 
 -- ---- words
@@ -486,9 +486,6 @@ comparison-compares n from item to m =
 
 abbrev pub more_plain : Word → Bool
 more_plain = or_also goes_on (or_also more_atom more_sum)
-
-abbrev pub IsPlain : ℕ → Grammar LitItem
-IsPlain n = Either (IsAtomItem n) (IsComparison n)
 
 pub atom_item-known : (n : ℕ) → Known_by (IsAtomItem n) (read_atom_item n) starts_atom more_atom
 atom_item-known n = made-known items.Atom (IsAtom (suc n)) (read_atom (suc n)) starts_atom more_atom (atom-known (suc n))

@@ -11,7 +11,8 @@ use Rattle.formula_syntax.specs.Reading.{read_value, read_expr, read_negative, r
 use Rattle.formula_syntax.proofs.Readers.{either-got}
 use Rattle.part_syntax.specs.Grammar.{literal, body_of}
 use Rattle.part_syntax.specs.Reading.{compares, read_tel, read_plain, read_negated, read_literal, read_body, read_tail, starts_literal, starts_plain, starts_value}
-use Rattle.part_syntax.specs.Given.{first_of, body_or_none}
+use Rattle.part_syntax.specs.Descriptions.{first_of}
+use Rattle.part_syntax.specs.Given.{body_or_none}
 
 none_of : {A : Type 0} (o : Option A) → is_some o ≡ false → o ≡ None
 none_of None is = refl

@@ -8,7 +8,7 @@ use Rattle.formula_syntax.specs.Grammar.{sign}
 use Rattle.tel_rule.specs.declared.statements.Arg.{Arg}
 use Rattle.part_syntax.specs.Grammar.{chain_of, tuples_of}
 use Rattle.part_syntax.specs.Reading.{read_tuple, read_tuples}
-use Rattle.part_syntax.specs.Given.{first_of}
+use Rattle.part_syntax.specs.Descriptions.{first_of}
 
 module _ {A B C : Type 0} (end : Reader C) where
   abbrev pub row_of : B × (List (A × B) × C) → List B

@@ -1,10 +1,11 @@
 pub mod AtomOrComparison
 pub mod Bodies
+pub mod Codes
 pub mod Decided
+pub mod Described
 pub mod Enclosed
 pub mod Fresh
 pub mod Lengths
-pub mod LiteralReads
 pub mod Nots
 pub mod OneFault
 pub mod OneProgram
@@ -16,5 +17,6 @@ pub mod Rows
 pub mod StatementReads
 pub mod TextOutcomes
 pub mod TextReads
+pub mod Things
 pub mod Told
 pub mod Whole

@@ -1,12 +1,12 @@
 -- Grammars that are read: with the words that their things begin and go on with, and one level more.
-use Rattle.std.proofs.Common.{ℕ, Bool, List, Option, refl}
+use Rattle.std.proofs.Common.{ℕ, Bool, Option, refl}
 use Rattle.formula_syntax.specs.Points.{Word, Known, Point}
 use Rattle.formula_syntax.specs.Shapes.{Grammar, One, Then, Made, Either, Each, AtMost, Maybe, After}
 use Rattle.formula_syntax.specs.Steps.{Reader, made, one, both, either, at_most, each, maybe, after, passes, or_also}
 use Rattle.formula_syntax.proofs.Dependents.{after-reads, after-starts}
 use Rattle.formula_syntax.proofs.Readers.{Near, Reads, Starts, Opens, nothing, one-reads, one-starts, made-reads, made-starts, both-reads, both-reads_on, both-starts, both-starts_on, either-reads, either-starts, maybe-reads, maybe-opens, at_most-reads, at_most-opens, each-reads, each-opens}
-use Rattle.formula_syntax.proofs.Levels.{each-raises, after-raises}
-use Rattle.formula_syntax.proofs.Nonterminals.{Known_by, Lifts, Apart, Passing, each-wider, made-lifts, then-lifts, operand-lifts}
+use Rattle.formula_syntax.proofs.Levels.{each-raises, at_most-raises, after-raises}
+use Rattle.formula_syntax.proofs.Nonterminals.{Known_by, Lifts, Apart, Passing, each-wider}
 
 pub record Read_by {A : Type 0} (F : Grammar A) (read : Reader A) (starts more : Word → Bool) : Type 0 where
   pub reads : Reads F read more
@@ -54,18 +54,8 @@ at_most-opened most F read starts more k apart = record { reads = at_most-reads 
 pub each-lifts : {A : Type 0} (F G : Grammar A) (read higher : Reader A) (starts more : Word → Bool) → Lifts F G read higher → Read_by G higher starts more → Lifts (Each F) (Each G) (each starts read) (each starts higher)
 each-lifts F G read higher starts more l k = record { raises = each-raises G read higher more starts k.reads k.begun l.raises; wider = each-wider F G l.wider }
 
--- a chain of operands, each but the first behind an operator
-pub chain-read : {A B C : Type 0} (make : B × List (A × B) → C) (op : Word → Option (Known → A × Known)) (F : Grammar B) (read : Reader B) (starts more : Word → Bool) → Passing op → Read_by F read starts more → Apart (passes op) more → Read_by (Made make (Then F (Each (Then (One op) F)))) (made make (both read (each (passes op) (both (one op) read)))) starts (or_also more (or_also (passes op) more))
-chain-read make op F read starts more p k apart =
-    made-read make (Then F (Each (Then (One op) F))) (both read (each (passes op) (both (one op) read))) starts (or_also more (or_also (passes op) more))
-    (then-read_on F (Each (Then (One op) F)) read (each (passes op) (both (one op) read)) starts more (passes op) (or_also (passes op) more) k
-    (each-opened (Then (One op) F) (both (one op) read) (passes op) more (operand-read op F read starts more p k) apart) apart)
-
-pub chain-lifts : {A B C : Type 0} (make : B × List (A × B) → C) (op : Word → Option (Known → A × Known)) (F G : Grammar B) (read higher : Reader B) (starts more : Word → Bool) → Passing op → Lifts F G read higher → Read_by G higher starts more → Lifts (Made make (Then F (Each (Then (One op) F)))) (Made make (Then G (Each (Then (One op) G)))) (made make (both read (each (passes op) (both (one op) read)))) (made make (both higher (each (passes op) (both (one op) higher))))
-chain-lifts make op F G read higher starts more p l k =
-    made-lifts make (Then F (Each (Then (One op) F))) (Then G (Each (Then (One op) G))) (both read (each (passes op) (both (one op) read))) (both higher (each (passes op) (both (one op) higher)))
-    (then-lifts F G (Each (Then (One op) F)) (Each (Then (One op) G)) read higher (each (passes op) (both (one op) read)) (each (passes op) (both (one op) higher)) l
-    (each-lifts (Then (One op) F) (Then (One op) G) (both (one op) read) (both (one op) higher) (passes op) more (operand-lifts op F G read higher p l) (operand-read op G higher starts more p k)) k.reads.near)
+pub at_most-lifts : {A : Type 0} (most : ℕ) (F G : Grammar A) (read higher : Reader A) (starts : Word → Bool) → Lifts F G read higher → ((from : Point) → Near higher from (higher from)) → Lifts (AtMost most F) (AtMost most G) (at_most most starts read) (at_most most starts higher)
+at_most-lifts most F G read higher starts l near = record { raises = at_most-raises most starts read higher l.raises near; wider = λ from things to r. (r.0, each-wider F G l.wider from things to r.1) }
 
 pub after-read : {A B : Type 0} (F : Grammar A) (G : A → Grammar B) (first : Reader A) (second : A → Reader B) (startsF moreF startsG moreG : Word → Bool) → Read_by F first startsF moreF → ((a : A) → Read_by (G a) (second a) startsG moreG) → Apart startsG moreF → Read_by (After F G) (after first second) startsF moreG
 after-read F G first second startsF moreF startsG moreG f g apart = record {

@@ -26,10 +26,6 @@ ReadsItem outcome (Err stop) new = stop ≢ stops.Memory → outcome ≡ Stuck (
 abbrev pub IsFrugal : Point → Point → Type 0
 IsFrugal old new = length new.known.symbols + length new.words ≤ length old.known.symbols + length old.words
 
--- the first of two things
-abbrev pub first_of : {A B : Type 0} → A × B → A
-first_of pair = pair.0
-
 -- the literals of a body, or none, and the stop behind them
 abbrev pub body_or_none : Option (List Literal) × Unit {0} → List Literal
 body_or_none read = body_of (tt, read)

@@ -26,8 +26,9 @@ use Rattle.tel_rule.specs.declared.statements.Statement.{Statement}
 use Rattle.formula_syntax.specs.declared.marks.Mark.TheVariants as marks
 use Rattle.formula_syntax.specs.Points.{Word, Known, Point, at}
 use Rattle.formula_syntax.specs.Senses.{Sense, Name, Number, Sign, sense, number_of}
-use Rattle.formula_syntax.specs.Shapes.{Grammar, One, Then, Made, Either, Each, AtMost, Maybe, After}
-use Rattle.formula_syntax.specs.Grammar.{by_itself, plain, sign, name, further_arguments, behind_all, is_there, count, SignRead, IsSign, IsExpr, IsAtom, IsFormula}
+use Rattle.formula_syntax.specs.Shapes.{Grammar, One, Then, Made, Either, Each, After}
+use Rattle.part_syntax.specs.Descriptions.{Production, given, alone, led, ended, ended_from, made_of, and, and_on, and_from, or, many, few, perhaps, means}
+use Rattle.formula_syntax.specs.Grammar.{by_itself, plain, sign, behind, name, further_arguments, behind_all, is_there, count, SignRead, IsSign, IsExpr, IsAtom, IsFormula}
 
 -- ---- words
 
@@ -86,13 +87,6 @@ relation word = by_itself (relation_of (sense word))
 abbrev pub literal : ℕ → LitItem → Literal
 literal nots item = record { nots = nots; item = item }
 
-abbrev pub tel_of : Unit {0} × (Unit {0} × (Unit {0} × (Formula × Unit {0}))) → LitItem
-tel_of read = items.Tel read.1.1.1.0
-
--- tel = "&" "tel" "{" formula "}"
-abbrev pub IsTel : ℕ → Grammar LitItem
-IsTel n = Made tel_of (Then (One (sign marks.Ampersand)) (Then (One tel_word) (Then (One (sign marks.OpenBrace)) (Then (IsFormula (suc n)) (One (sign marks.CloseBrace))))))
-
 abbrev pub compare_of : Expr × (Relation × Expr) → LitItem
 compare_of read = items.Compare read.1.0 read.0 read.1.1
 
@@ -103,50 +97,108 @@ IsComparison n = Made compare_of (Then (IsExpr (suc n)) (Then (One relation) (Is
 abbrev pub IsAtomItem : ℕ → Grammar LitItem
 IsAtomItem n = Made items.Atom (IsAtom (suc n))
 
+-- An atom or a comparison, for which more than one word is looked at.
+abbrev pub IsPlain : ℕ → Grammar LitItem
+IsPlain n = Either (IsAtomItem n) (IsComparison n)
+
+-- What the productions of statements are made of, beside signs.
+pub data Thing : Type 0 where
+  ATel : Thing
+  AName : Thing
+  APart : Thing
+  AnArity : Thing
+  ASeparator : Thing
+  ASign : Thing
+  AnExpr : Thing
+  AnAtomItem : Thing
+  AnAtom : Thing
+  AFormula : Thing
+  APlain : Thing
+
+abbrev pub Of : Thing → Type 0
+Of ATel = Unit {0}
+Of AName = List ℕ
+Of APart = Part
+Of AnArity = ℕ
+Of ASeparator = Unit {0}
+Of ASign = SignRead
+Of AnExpr = Expr
+Of AnAtomItem = LitItem
+Of AnAtom = Atom
+Of AFormula = Formula
+Of APlain = LitItem
+
+abbrev pub IsThing : ℕ → (thing : Thing) → Grammar (Of thing)
+IsThing n ATel = One tel_word
+IsThing n AName = One name
+IsThing n APart = One part
+IsThing n AnArity = One arity
+IsThing n ASeparator = One separator
+IsThing n ASign = IsSign
+IsThing n AnExpr = IsExpr (suc n)
+IsThing n AnAtomItem = IsAtomItem n
+IsThing n AnAtom = IsAtom (suc n)
+IsThing n AFormula = IsFormula (suc n)
+IsThing n APlain = IsPlain n
+
+abbrev pub Produces : Type 0 → Type 1
+Produces A = Production Thing Of false A
+
+-- tel = "&" "tel" "{" formula "}"
+abbrev pub tel : Produces LitItem
+tel = made_of items.Tel (led marks.Ampersand (made_of behind (and (given ATel) (led marks.OpenBrace (ended (given AFormula) marks.CloseBrace)))))
+
 abbrev pub negated_of : Unit {0} × (Option (Unit {0}) × LitItem) → Literal
-negated_of read = literal (1 + count read.1.0) read.1.1
+negated_of (first, (second, item)) = literal (1 + count second) item
+
+abbrev pub negatable : Produces LitItem
+negatable = or tel (given AnAtomItem)
+
+abbrev pub negated : Produces Literal
+negated = made_of negated_of (and (alone marks.Not) (and_from (perhaps (alone marks.Not)) negatable))
+
+abbrev pub bare : Produces LitItem
+bare = or tel (given APlain)
 
 -- literal = [ "not" [ "not" ] ] ( tel | atom ) | comparison
-abbrev pub IsLiteral : ℕ → Grammar Literal
-IsLiteral n =
-    Either (Made negated_of (Then (One (sign marks.Not)) (Then (Maybe (One (sign marks.Not))) (Either (IsTel n) (IsAtomItem n)))))
-    (Made (literal 0) (Either (IsTel n) (Either (IsAtomItem n) (IsComparison n))))
+abbrev pub any_literal : Produces Literal
+any_literal = or negated (made_of (literal 0) bare)
 
 abbrev pub chain_of : {A B : Type 0} → B × List (A × B) → List B
 chain_of read = read.0 ∷ behind_all read.1
 
 -- body = literal { ("," | ";") literal }
-abbrev pub IsBody : ℕ → Grammar (List Literal)
-IsBody n = Made chain_of (Then (IsLiteral n) (Each (Then (One separator) (IsLiteral n))))
+abbrev pub body : Produces (List Literal)
+body = made_of chain_of (and_on any_literal (many (and (given ASeparator) any_literal)))
 
 abbrev pub body_of : Unit {0} × (Option (List Literal) × Unit {0}) → List Literal
 body_of (sign, (Some body, end)) = body
 body_of (sign, (None, end)) = []
 
 -- tail = ":-" [ body ] "."
-abbrev pub IsTail : ℕ → Grammar (List Literal)
-IsTail n = Made body_of (Then (One (sign marks.If)) (Then (Maybe (IsBody n)) (One (sign marks.Stop))))
+abbrev pub tail : Produces (List Literal)
+tail = made_of body_of (and (alone marks.If) (and_from (perhaps body) (alone marks.Stop)))
 
 -- ---- facts
 
 abbrev pub arg_of : Expr × Option (Unit {0} × Expr) → Arg
 arg_of (first, None) = args.One first
-arg_of (first, Some last) = args.Range first last.1
+arg_of (first, Some (dots, last)) = args.Range first last
 
 -- arg = expr [ ".." expr ]
-abbrev pub IsArg : ℕ → Grammar Arg
-IsArg n = Made arg_of (Then (IsExpr (suc n)) (Maybe (Then (One (sign marks.Dots)) (IsExpr (suc n)))))
+abbrev pub arg : Produces Arg
+arg = made_of arg_of (and_on (given AnExpr) (perhaps (and (alone marks.Dots) (given AnExpr))))
 
 -- tuple = arg { "," arg }, with at most eight arguments
-abbrev pub IsTuple : ℕ → Grammar (List Arg)
-IsTuple n = Made chain_of (Then (IsArg n) (AtMost further_arguments (Then (One (sign marks.Comma)) (IsArg n))))
+abbrev pub tuple : Produces (List Arg)
+tuple = made_of chain_of (and_on arg (few further_arguments (and (alone marks.Comma) arg)))
 
 abbrev pub tuples_of : Unit {0} × (List Arg × (List (Unit {0} × List Arg) × Unit {0})) → List (List Arg)
-tuples_of read = read.1.0 ∷ behind_all read.1.1.0
+tuples_of (first_sign, (first, (more, last_sign))) = first ∷ behind_all more
 
 -- "(" tuple { ";" tuple } ")"
-abbrev pub IsTuples : ℕ → Grammar (List (List Arg))
-IsTuples n = Made tuples_of (Then (One (sign marks.Open)) (Then (IsTuple n) (Then (Each (Then (One (sign marks.Semicolon)) (IsTuple n))) (One (sign marks.Close)))))
+abbrev pub tuples : Produces (List (List Arg))
+tuples = made_of tuples_of (and (alone marks.Open) (and tuple (and_from (many (and (alone marks.Semicolon) tuple)) (alone marks.Close))))
 
 abbrev pub tuples_or_one : Option (List (List Arg)) → List (List Arg)
 tuples_or_one None = [] ∷ []
@@ -162,8 +214,8 @@ fact_of (sign, tuples) = record {
 }
 
 -- facts = sign [ "(" tuple { ";" tuple } ")" ], which without brackets have one empty tuple
-abbrev pub IsFacts : ℕ → Grammar Fact
-IsFacts n = Made fact_of (Then IsSign (Maybe (IsTuples n)))
+abbrev pub facts : Produces Fact
+facts = made_of fact_of (and_on (given ASign) (perhaps tuples))
 
 -- ---- statements
 
@@ -179,8 +231,8 @@ head_with fact (Some read) = Some (heads.Normal (record { negative = fact.negati
 
 abbrev pub head_at : Fact → List (List Arg) → Option Head
 head_at fact [] = None
-head_at fact (tuple ∷ []) = head_with fact (plain_args tuple)
-head_at fact (tuple ∷ next ∷ more) = None
+head_at fact (only ∷ []) = head_with fact (plain_args only)
+head_at fact (first ∷ second ∷ more) = None
 
 -- the head that facts are, if they are one atom: one tuple without ranges
 abbrev pub head_of : Fact → Option Head
@@ -198,71 +250,63 @@ abbrev pub rule_item : Head → List Literal → Item
 rule_item head body = Says (kinds.Rule head body)
 
 -- what stands behind facts: a stop, or the tail of a rule, where they are its head
-abbrev pub BehindFacts : ℕ → Fact → Option Head → Grammar Item
-BehindFacts n fact None = Made (fact_item fact) (One (sign marks.Stop))
-BehindFacts n fact (Some head) = Either (Made (fact_item fact) (One (sign marks.Stop))) (Made (rule_item head) (IsTail n))
+abbrev pub behind_facts : Fact → Option Head → Produces Item
+behind_facts fact None = made_of (fact_item fact) (alone marks.Stop)
+behind_facts fact (Some head) = or (made_of (fact_item fact) (alone marks.Stop)) (made_of (rule_item head) tail)
 
 -- facts "." | atom tail
 abbrev pub IsFactOrRule : ℕ → Grammar Item
-IsFactOrRule n = After (IsFacts n) (λ fact. BehindFacts n fact (head_of fact))
-
-abbrev pub braced : Unit {0} × (Atom × Unit {0}) → Head
-braced read = heads.Choice read.1.0
+IsFactOrRule n = After (means (IsThing n) facts) (λ fact. means (IsThing n) (behind_facts fact (head_of fact)))
 
 -- choice = "{" atom "}"
-abbrev pub IsChoice : ℕ → Grammar Head
-IsChoice n = Made braced (Then (One (sign marks.OpenBrace)) (Then (IsAtom (suc n)) (One (sign marks.CloseBrace))))
+abbrev pub choice : Produces Head
+choice = made_of heads.Choice (led marks.OpenBrace (ended (given AnAtom) marks.CloseBrace))
 
 abbrev pub no_body : Unit {0} → List Literal
 no_body end = []
 
 abbrev pub choice_item : Head × List Literal → Item
-choice_item read = rule_item read.0 read.1
+choice_item (head, body) = rule_item head body
 
 -- choice "." | choice tail
-abbrev pub IsChoiceRule : ℕ → Grammar Item
-IsChoiceRule n = Made choice_item (Then (IsChoice n) (Either (Made no_body (One (sign marks.Stop))) (IsTail n)))
+abbrev pub choice_rule : Produces Item
+choice_rule = made_of choice_item (and choice (or (made_of no_body (alone marks.Stop)) tail))
 
 -- a constraint: the tail of a rule without a head
-abbrev pub IsConstraint : ℕ → Grammar Item
-IsConstraint n = Made (rule_item heads.None) (IsTail n)
-
-abbrev pub part_item : Unit {0} × (Part × Unit {0}) → Item
-part_item read = InPart read.1.0
+abbrev pub constraint : Produces Item
+constraint = made_of (rule_item heads.None) tail
 
 -- "#program" ("initial" | "dynamic" | "always" | "final") "."
-abbrev pub IsPartItem : Grammar Item
-IsPartItem = Made part_item (Then (One (sign marks.Program)) (Then (One part) (One (sign marks.Stop))))
+abbrev pub part_item : Produces Item
+part_item = made_of InPart (led marks.Program (ended (given APart) marks.Stop))
 
-abbrev pub const_item : Unit {0} × (List ℕ × (Unit {0} × (Expr × Unit {0}))) → Item
-const_item read = Says (kinds.Const read.1.0 read.1.1.1.0)
+abbrev pub const_of : List ℕ × Expr → Item
+const_of (name, value) = Says (kinds.Const name value)
 
 -- "#const" name "=" expr "."
-abbrev pub IsConstItem : ℕ → Grammar Item
-IsConstItem n = Made const_item (Then (One (sign marks.Const)) (Then (One name) (Then (One (sign marks.Equal)) (Then (IsExpr (suc n)) (One (sign marks.Stop))))))
+abbrev pub const_item : Produces Item
+const_item = made_of const_of (led marks.Const (and (given AName) (led marks.Equal (ended (given AnExpr) marks.Stop))))
 
-abbrev pub signature_of : Option (Unit {0}) × (List ℕ × (Unit {0} × ℕ)) → Signature
-signature_of read = record { negative = is_there read.0; name = read.1.0; arity = read.1.1.1 }
+abbrev pub signature_of : Option (Unit {0}) × (List ℕ × ℕ) → Signature
+signature_of (minus, (name, arity)) = record { negative = is_there minus; name = name; arity = arity }
 
 -- signature = [ "-" ] name "/" number
-abbrev pub IsSignature : Grammar Signature
-IsSignature = Made signature_of (Then (Maybe (One (sign marks.Minus))) (Then (One name) (Then (One (sign marks.Slash)) (One arity))))
+abbrev pub signature : Produces Signature
+signature = made_of signature_of (and_from (perhaps (alone marks.Minus)) (and (given AName) (led marks.Slash (given AnArity))))
 
-abbrev pub show_item : Unit {0} × (Option Signature × Unit {0}) → Item
-show_item read = Says (kinds.Show read.1.0)
+abbrev pub show_of : Option Signature → Item
+show_of shown = Says (kinds.Show shown)
 
 -- "#show" [ signature ] "."
-abbrev pub IsShowItem : Grammar Item
-IsShowItem = Made show_item (Then (One (sign marks.Show)) (Then (Maybe IsSignature) (One (sign marks.Stop))))
+abbrev pub show_item : Produces Item
+show_item = made_of show_of (led marks.Show (ended_from (perhaps signature) marks.Stop))
+
+abbrev pub other_item : Produces Item
+other_item = or choice_rule (or constraint (or part_item (or const_item show_item)))
 
 -- an item of a text
 abbrev pub IsItem : ℕ → Grammar Item
-IsItem n =
-    Either (IsFactOrRule n)
-    (Either (IsChoiceRule n)
-    (Either (IsConstraint n)
-    (Either IsPartItem
-    (Either (IsConstItem n) IsShowItem))))
+IsItem n = Either (IsFactOrRule n) (means (IsThing n) other_item)
 
 -- ---- texts
 

@@ -1,3 +1,4 @@
+pub mod Descriptions
 pub mod Given
 pub mod Grammar
 pub mod Outcomes

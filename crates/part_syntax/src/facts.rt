@@ -4,7 +4,8 @@ ghost use Rattle.formula_syntax.specs.Grammar.{behind, sign};
 ghost use Rattle.formula_syntax.specs.Given.{Reads};
 ghost use Rattle.part_syntax.specs.Grammar as grammar;
 ghost use Rattle.part_syntax.specs.Reading as readers;
-ghost use Rattle.part_syntax.specs.Given.{IsFrugal, first_of};
+ghost use Rattle.part_syntax.specs.Descriptions.{first_of};
+ghost use Rattle.part_syntax.specs.Given.{IsFrugal};
 
 use crate::literals::expr;
 use crate::words;

@@ -4,6 +4,7 @@ ghost use Rattle.formula_syntax.specs.Reading as formulas;
 ghost use Rattle.formula_syntax.specs.Steps.{one, maybe, either, made, passes};
 ghost use Rattle.formula_syntax.specs.Grammar.{sign};
 ghost use Rattle.formula_syntax.specs.Given.{Reads};
+ghost use Rattle.part_syntax.specs.Descriptions.{or};
 ghost use Rattle.part_syntax.specs.Grammar as grammar;
 ghost use Rattle.part_syntax.specs.Reading as readers;
 ghost use Rattle.part_syntax.specs.Given.{ReadsItem, IsFrugal};
@@ -25,7 +26,7 @@ pub enum Item {
 
 /// A part of the program begins.
 fn part_item(reading: &mut Reading) -> Result<Item, Stop>
-    ensures reads { ReadsItem (readers.read_part_item reading.old) result reading.new }
+    ensures reads { ReadsItem (readers.read_as grammar.part_item 0 reading.old) result reading.new }
     ensures room { IsFrugal reading.old reading.new }
 {
     words::expect(reading, Mark::Program)?;
@@ -36,7 +37,7 @@ fn part_item(reading: &mut Reading) -> Result<Item, Stop>
 
 /// A predicate: a name, which a `-` may stand before, and a number of arguments.
 fn signature(reading: &mut Reading) -> Result<Signature, Stop>
-    ensures reads { Reads (readers.read_signature reading.old) result reading.new }
+    ensures reads { Reads (readers.read_as grammar.signature 0 reading.old) result reading.new }
     ensures room { IsFrugal reading.old reading.new }
 {
     let negative = reading.take(Mark::Minus);
@@ -52,7 +53,7 @@ fn signature(reading: &mut Reading) -> Result<Signature, Stop>
 
 /// The predicate that is shown, if there is one.
 fn shown(reading: &mut Reading) -> Result<Option<Signature>, Stop>
-    ensures reads { Reads (maybe readers.starts_signature readers.read_signature reading.old) result reading.new }
+    ensures reads { Reads (maybe readers.starts_signature (readers.read_as grammar.signature 0) reading.old) result reading.new }
     ensures room { IsFrugal reading.old reading.new }
 {
     if reading.sees(Mark::Minus) || words::at_name(reading) {
@@ -65,7 +66,7 @@ fn shown(reading: &mut Reading) -> Result<Option<Signature>, Stop>
 
 /// What is shown.
 fn show_item(reading: &mut Reading) -> Result<Item, Stop>
-    ensures reads { ReadsItem (readers.read_show_item reading.old) result reading.new }
+    ensures reads { ReadsItem (readers.read_as grammar.show_item 0 reading.old) result reading.new }
     ensures room { IsFrugal reading.old reading.new }
 {
     words::expect(reading, Mark::Show)?;
@@ -76,7 +77,7 @@ fn show_item(reading: &mut Reading) -> Result<Item, Stop>
 
 /// A constant and its expression.
 fn const_item(reading: &mut Reading, levels: u8) -> Result<Item, Stop>
-    ensures reads { ReadsItem (readers.read_const_item levels reading.old) result reading.new }
+    ensures reads { ReadsItem (readers.read_as grammar.const_item levels reading.old) result reading.new }
     ensures room { IsFrugal reading.old reading.new }
 {
     words::expect(reading, Mark::Const)?;
@@ -116,7 +117,7 @@ fn fact_or_rule(reading: &mut Reading, levels: u8) -> Result<Item, Stop>
 
 /// The head of a choice.
 fn choice(reading: &mut Reading, levels: u8) -> Result<Head, Stop>
-    ensures reads { Reads (readers.read_choice levels reading.old) result reading.new }
+    ensures reads { Reads (readers.read_as grammar.choice levels reading.old) result reading.new }
     ensures room { IsFrugal reading.old reading.new }
 {
     words::expect(reading, Mark::OpenBrace)?;
@@ -138,7 +139,7 @@ fn choice_body(reading: &mut Reading, levels: u8) -> Result<Items<Literal>, Stop
 
 /// A choice.
 fn choice_rule(reading: &mut Reading, levels: u8) -> Result<Item, Stop>
-    ensures reads { ReadsItem (readers.read_choice_rule levels reading.old) result reading.new }
+    ensures reads { ReadsItem (readers.read_as grammar.choice_rule levels reading.old) result reading.new }
     ensures room { IsFrugal reading.old reading.new }
 {
     let head = choice(reading, levels)?;
@@ -148,7 +149,7 @@ fn choice_rule(reading: &mut Reading, levels: u8) -> Result<Item, Stop>
 
 /// A constraint.
 fn constraint(reading: &mut Reading, levels: u8) -> Result<Item, Stop>
-    ensures reads { ReadsItem (readers.read_constraint levels reading.old) result reading.new }
+    ensures reads { ReadsItem (readers.read_as grammar.constraint levels reading.old) result reading.new }
     ensures room { IsFrugal reading.old reading.new }
 {
     let body = tail(reading, levels)?;
@@ -167,8 +168,7 @@ fn at_atom(reading: &Reading) -> bool
 
 /// A directive.
 fn directive(reading: &mut Reading, levels: u8) -> Result<Item, Stop>
-    ensures reads { ReadsItem (either (passes (sign Mark.Program)) readers.read_part_item
-        (either (passes (sign Mark.Const)) (readers.read_const_item levels) readers.read_show_item) reading.old) result reading.new }
+    ensures reads { ReadsItem (readers.read_as (or grammar.part_item (or grammar.const_item grammar.show_item)) levels reading.old) result reading.new }
     ensures room { IsFrugal reading.old reading.new }
 {
     if reading.sees(Mark::Program) {

@@ -6,7 +6,8 @@ ghost use Rattle.formula_syntax.specs.Grammar.{sign, count, behind};
 ghost use Rattle.formula_syntax.specs.Given.{Reads};
 ghost use Rattle.part_syntax.specs.Grammar as grammar;
 ghost use Rattle.part_syntax.specs.Reading as readers;
-ghost use Rattle.part_syntax.specs.Given.{IsFrugal, first_of, body_or_none};
+ghost use Rattle.part_syntax.specs.Descriptions.{first_of};
+ghost use Rattle.part_syntax.specs.Given.{IsFrugal, body_or_none};
 
 use crate::words;
 use formula_syntax::{Mark, Reading, Sense, Stop, sense_of};
