@@ -26,7 +26,7 @@ use Rattle.completion.proofs.RuleLists.{some_is, own_none, rule_kind, node_head,
 use Rattle.completion.proofs.StatedClauses.{of_close, of_body, of_later, of_support, of_node, of_pair, of_open, from_bodies_with}
 
 -- a clause of one negation
-alone_false : (S : Set) (v : ℕ) → clause_true S (no_lit v ∷ []) ≡ true → S v ≡ false
+pub alone_false : (S : Set) (v : ℕ) → clause_true S (no_lit v ∷ []) ≡ true → S v ≡ false
 alone_false S v h = ⊎_elim (λ (n : not (S v) ≡ true). not-true (S v) n) (λ f. absurd (false≢true f)) (or_cases (not (S v)) false h)
 
 -- a clause of a variable and the negation of a true one
@@ -34,7 +34,7 @@ then_head : (S : Set) (head body : ℕ) → S body ≡ true → clause_true S (l
 then_head S head body t h =
     ⊎_elim (λ (a : S head ≡ true). a) (λ r. ⊎_elim (λ (n : not (S body) ≡ true). absurd (false≢true (sym (not-true (S body) n) ∙ t))) (λ f. absurd (false≢true f)) (or_cases (not (S body)) false r)) (or_cases (S head) (not (S body) || false) h)
 
-then_false : (S : Set) (v w : ℕ) → S v ≡ true → clause_true S (no_lit v ∷ no_lit w ∷ []) ≡ true → S w ≡ false
+pub then_false : (S : Set) (v w : ℕ) → S v ≡ true → clause_true S (no_lit v ∷ no_lit w ∷ []) ≡ true → S w ≡ false
 then_false S v w t h = not-true (S w) (then_one S v (no_lit w) t h)
 
 module _ (steps : ℕ → StepModule) (n : ℕ) (S : Set) (settled : AreSettled steps n) (some : 0 < n) (clauses : SatisfiesClauses steps n S) (last : S (steps (n - 1)).end ≡ true) where

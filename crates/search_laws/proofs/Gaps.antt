@@ -28,17 +28,17 @@ from_listed clause one lit m j =
     ⊎_elim (λ (e : in_order clause ≡ one). from_order lit clause (subst (λ (c : Clause). In lit c) (sym e) j)) (λ none. absurd none) (subst (λ (cs : List Clause). In one cs) (cond-false (has_both (in_order clause)) [] (in_order clause ∷ []) f) m)) (cases_Bool (has_both (in_order clause)))
 
 -- what X says, with this value for x
-filled : Lits → ℕ → Bool → Set
+pub filled : Lits → ℕ → Bool → Set
 filled X x b v = cond (v == x) b (X (lit_of v))
 
-filled_at : (X : Lits) (x : ℕ) (b : Bool) → filled X x b x ≡ b
+pub filled_at : (X : Lits) (x : ℕ) (b : Bool) → filled X x b x ≡ b
 unfolding filled
 filled_at X x b = cond-true (x == x) b (X (lit_of x)) (eq-eqb x x refl)
 
 apart_of : (v x : ℕ) → (v ≡ x → ⊥) → (v == x) ≡ false
 apart_of v x h = ⊎_elim (λ (e : (v == x) ≡ true). absurd (h (eqb-true v x e))) (λ f. f) (cases_Bool (v == x))
 
-filled_off : (X : Lits) (x : ℕ) (b : Bool) (v : ℕ) → (v ≡ x → ⊥) → filled X x b v ≡ X (lit_of v)
+pub filled_off : (X : Lits) (x : ℕ) (b : Bool) (v : ℕ) → (v ≡ x → ⊥) → filled X x b v ≡ X (lit_of v)
 unfolding filled
 filled_off X x b v h = cond-false (v == x) b (X (lit_of v)) (apart_of v x h)
 
@@ -59,7 +59,7 @@ one_of_signs S x true false h = ⊎_elim (λ t. inl t) (λ f. inr (not_from_fals
 one_of_signs S x false true h = ⊎_elim (λ t. inr t) (λ f. inl (not_from_false (S x) f)) (cases_Bool (S x))
 one_of_signs S x false false h = absurd (false≢true (sym h))
 
-cases_var : (v x : ℕ) → (v ≡ x) ⊎ (v ≡ x → ⊥)
+pub cases_var : (v x : ℕ) → (v ≡ x) ⊎ (v ≡ x → ⊥)
 cases_var v x = ⊎_elim (λ (e : (v == x) ≡ true). inl (eqb-true v x e)) (λ (f : (v == x) ≡ false). inr (λ e. false≢true (sym f ∙ eq-eqb v x e))) (cases_Bool (v == x))
 
 module _ (clauses : List Clause) (X : Lits) (x : ℕ) (level : IsClosedLevel clauses X) (free : has_value X x ≡ false) (b : Bool) where
@@ -76,7 +76,7 @@ module _ (clauses : List Clause) (X : Lits) (x : ℕ) (level : IsClosedLevel cla
         sign_none true a c u = false≢true (sym a ∙ u)
         sign_none false a c u = false≢true (sym c ∙ u)
 
-  clause_filled : (clause : Clause) → In clause clauses → ((lit : Lit) → In lit clause → (lit.var ≡ x) ⊎ (has_value X lit.var ≡ true)) → clause_true (filled X x b) clause ≡ true
+  pub clause_filled : (clause : Clause) → In clause clauses → ((lit : Lit) → In lit clause → (lit.var ≡ x) ⊎ (has_value X lit.var ≡ true)) → clause_true (filled X x b) clause ≡ true
   clause_filled clause i valued =
       let S = filled X x b in
       ⊎_elim (λ (some : list_any X clause ≡ true).
@@ -86,6 +86,12 @@ module _ (clauses : List Clause) (X : Lits) (x : ℕ) (level : IsClosedLevel cla
       ⊎_elim (λ (e : two.first.var ≡ x). ⊎_elim (λ (g : two.second.var ≡ x).
       let differ : cond two.first.positive two.second.positive (not two.second.positive) ≡ false = ⊎_elim (λ (s : cond two.first.positive two.second.positive (not two.second.positive) ≡ true). absurd (false≢true (sym (not-true (same_lit two.first two.second) two.apart) ∙ and_from (two.first.var == two.second.var) (cond two.first.positive two.second.positive (not two.second.positive)) (eq-eqb two.first.var two.second.var (e ∙ sym g)) s))) (λ f. f) (cases_Bool (cond two.first.positive two.second.positive (not two.second.positive))) in
       ⊎_elim (λ t. any_from (lit_true S) clause two.first two.has_first ((λ i. cond two.first.positive (S (e i)) (not (S (e i)))) ∙ t)) (λ t. any_from (lit_true S) clause two.second two.has_second ((λ i. cond two.second.positive (S (g i)) (not (S (g i)))) ∙ t)) (one_of_signs S x two.first.positive two.second.positive differ)) (λ apart. use_one two.second two.has_second two.second_open apart) (cases_var two.second.var x)) (λ apart. use_one two.first two.has_first two.first_open apart) (cases_var two.first.var x)) (level.settled clause i)
+
+-- x has a value, where all other variables of a clause have one and the clause would be false if x were true
+pub value_by : (clauses : List Clause) (X : Lits) (x : ℕ) (clause : Clause) → IsClosedLevel clauses X → ((one : Clause) → In one (listed clause) → In one clauses) → ((lit : Lit) → In lit clause → (lit.var ≡ x) ⊎ (has_value X lit.var ≡ true)) → (clause_true (filled X x true) clause ≡ true → ⊥) → has_value X x ≡ true
+value_by clauses X x clause level held valued refuted =
+    ⊎_elim (λ (t : has_value X x ≡ true). t) (λ (free : has_value X x ≡ false).
+    absurd (refuted (listed_means (filled X x true) clause (λ one m. clause_filled clauses X x level free true one (held one m) (λ lit j. valued lit (from_listed clause one lit m j)))))) (cases_Bool (has_value X x))
 
 pub shape_has_value : ShapeHasValue
 shape_has_value clauses X x shape level held valued apart =

@@ -14,6 +14,7 @@ pub mod TotalTrails
 pub mod Examples
 pub mod FoundTrails
 pub mod Gaps
+pub mod Bases
 pub mod NoGaps
 pub mod AllValues
 pub mod TraceOrder

@@ -36,7 +36,7 @@ pub record AtState (atoms : ℕ → List ℕ) (low count : ℕ) (S R : Set) : Ty
   pub here : Before (atoms state) S R
   pub earlier : (u : ℕ) → low ≤ u → u < state → Agree (atoms u) S R
 
-at_state : (atoms : ℕ → List ℕ) (count low : ℕ) (S R : Set) → Before (flat_map atoms (range_with_len low count)) S R → AtState atoms low count S R
+pub at_state : (atoms : ℕ → List ℕ) (count low : ℕ) (S R : Set) → Before (flat_map atoms (range_with_len low count)) S R → AtState atoms low count S R
 at_state atoms zero low S R h = absurd h
 at_state atoms (suc count) low S R h =
     ⊎_elim (λ (b : Before (atoms low) S R). record { state = low; from = omega arith; within = omega arith; here = b; earlier = λ u a l. absurd (omega (arith, a, l)) }) (λ (r : Agree (atoms low) S R × Before (flat_map atoms (range_with_len (low + 1) count)) S R).

@@ -12,7 +12,7 @@ use Rattle.normal_program.specs.Shapes.{shape_bodies}
 use Rattle.normal_program.specs.StableSets.{Set}
 use Rattle.normal_program.specs.ModuleClauses.{no_lit, listed, shape_clauses, clauses_of}
 use Rattle.clause_store.specs.Closure.{Clause, Lits, IsClosedLevel}
-use Rattle.completion.specs.Completions.{IsHead}
+use Rattle.completion.specs.Completions.{AreSettled, IsHead}
 use Rattle.search_laws.specs.Lengths.{length_of}
 use Rattle.lit_trail.specs.declared.assignment.Entry.{Entry}
 use Rattle.lit_trail.specs.Sound.{holds}
@@ -55,6 +55,17 @@ pub record IsBaseTotal (steps : ℕ → StepModule) (n : ℕ) (clauses : List Cl
   pub level : IsClosedLevel clauses X
   pub held : (t : ℕ) → t < n → (clause : Clause) → In clause (clauses_of (steps t)) → In clause clauses
   pub base : (var : ℕ) → IsBase steps n var → IsTrue (has_value X var)
+
+-- the same, where the end of the length holds and the visible variables have values
+pub record IsVisibleTotal (steps : ℕ → StepModule) (n : ℕ) (clauses : List Clause) (X : Lits) : Type 0 where
+  pub level : IsClosedLevel clauses X
+  pub held : (t : ℕ) → t < n → (clause : Clause) → In clause (clauses_of (steps t)) → In clause clauses
+  pub ended : IsTrue (X (lit_of (steps (n - 1)).end))
+  pub visible : (var : ℕ) → In var (length_of steps n).visible → IsTrue (has_value X var)
+
+-- so have the ends before and the open variables
+abbrev pub VisibleIsBase : Type 0
+VisibleIsBase = (steps : ℕ → StepModule) (n : ℕ) (clauses : List Clause) (X : Lits) → 0 < n → AreSettled steps n → IsVisibleTotal steps n clauses X → IsBaseTotal steps n clauses X
 
 -- then all heads of the length have values, and the variables of all bodies
 abbrev pub NoGaps : Type 0

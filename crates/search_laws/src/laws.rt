@@ -2,7 +2,7 @@
 
 ghost use Rattle.search_laws.specs.Counted.{AtMostCounted};
 ghost use Rattle.search_laws.specs.Founded.{FoundedIsStable, NoneIsStable, SomeIsUnstable, TrailIsFound, TrailIsUnstable, ClosedMakesTrue};
-ghost use Rattle.search_laws.specs.Gaps.{ShapeHasValue, NoGaps, GapsAreTotal};
+ghost use Rattle.search_laws.specs.Gaps.{ShapeHasValue, VisibleIsBase, NoGaps, GapsAreTotal};
 ghost use Rattle.search_laws.specs.Levels.{LevelsAreTotal, LevelsAreStuck};
 ghost use Rattle.search_laws.specs.Laws.{EndsAreApart, FoundIsOne, ValuesStand, FoundIsFinds, ModulesAreComposed, StableSetsAgree, ModulesAndLoopsAreRight, LearntAreRight, BlocksAreRight, KeptAreRight, NeverIsRight, FoundMeetsAll, NextIsNext, FoundInOrder, ClosedFoundAll, OrderOfTraces};
 
@@ -61,6 +61,7 @@ pub fn found_trails()
     ensures unstable { TrailIsUnstable }
     ensures closed { ClosedMakesTrue }
     ensures shapes { ShapeHasValue }
+    ensures base { VisibleIsBase }
     ensures gaps { NoGaps }
     ensures total { GapsAreTotal }
 {}

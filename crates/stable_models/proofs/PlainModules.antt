@@ -33,7 +33,7 @@ use Rattle.completion.specs.Completions.{rules_by, own_rules, IsLater, IsHead}
 use Rattle.completion.proofs.Ranges.{range_cases}
 use Rattle.stable_models.specs.Values.{is_plain}
 use Rattle.stable_models.specs.Laws.{TemplatesAreApart, TemplatesArePlain}
-use Rattle.stable_models.proofs.PlainShapes.{plain_atom, plain_node, plain_end, shape_plain, plain_shape}
+use Rattle.stable_models.proofs.PlainShapes.{plain_atom, plain_node, plain_end, IsUpTo, plain_up_to, shape_plain, plain_shape}
 use Rattle.stable_models.proofs.SettledModules.{body_of, behind, right_head, atom_at, node_of_state, one_state, one_place, each_settled}
 
 -- ---- bodies
@@ -95,38 +95,41 @@ body_at_state program t def i =
 
 -- ---- literals
 
-plain_item : (program : Ground) (t : ℕ) (positive : Bool) (item : BodyItem) (lit : Lit) → item_in_range (length program.atoms) (length program.nodes) item ≡ true → In lit (item_lits (counts_of program) t positive item) → is_plain program lit.var ≡ true
-plain_item program t positive (items.Atom atom) lit right i =
-    ⊎_elim (λ (e : record { var = visible (counts_of program) atom t; positive = positive } ≡ lit). subst (λ (l : Lit). is_plain program l.var ≡ true) e (plain_atom program t atom (ltb-true atom (length program.atoms) right))) (λ m. absurd m) i
-plain_item program t positive (items.Before atom) lit right i =
+up_to_item : (program : Ground) (t : ℕ) (positive : Bool) (item : BodyItem) (lit : Lit) → item_in_range (length program.atoms) (length program.nodes) item ≡ true → In lit (item_lits (counts_of program) t positive item) → IsUpTo program t lit.var
+up_to_item program t positive (items.Atom atom) lit right i =
+    ⊎_elim (λ (e : record { var = visible (counts_of program) atom t; positive = positive } ≡ lit). inl (t, atom, omega arith, ltb-true atom (length program.atoms) right, ap (λ (l : Lit). l.var) e)) (λ m. absurd m) i
+up_to_item program t positive (items.Before atom) lit right i =
     let b = behind (nat_lt 0 t) (record { var = visible (counts_of program) atom (t - 1); positive = positive } ∷ []) lit i in
-    ⊎_elim (λ (e : record { var = visible (counts_of program) atom (t - 1); positive = positive } ≡ lit). subst (λ (l : Lit). is_plain program l.var ≡ true) e (plain_atom program (t - 1) atom (ltb-true atom (length program.atoms) right))) (λ m. absurd m) b.1
-plain_item program t positive (items.Node node) lit right i =
-    ⊎_elim (λ (e : record { var = part (counts_of program) node t; positive = positive } ≡ lit). subst (λ (l : Lit). is_plain program l.var ≡ true) e (plain_node program t node (ltb-true node (length program.nodes) right))) (λ m. absurd m) i
+    ⊎_elim (λ (e : record { var = visible (counts_of program) atom (t - 1); positive = positive } ≡ lit). inl (t - 1, atom, omega arith, ltb-true atom (length program.atoms) right, ap (λ (l : Lit). l.var) e)) (λ m. absurd m) b.1
+up_to_item program t positive (items.Node node) lit right i =
+    ⊎_elim (λ (e : record { var = part (counts_of program) node t; positive = positive } ≡ lit). inr (inr (t, node, omega arith, ltb-true node (length program.nodes) right, ap (λ (l : Lit). l.var) e))) (λ m. absurd m) i
 
-plain_part : (program : Ground) (t : ℕ) (of : Part) (lit : Lit) → In lit (part_lits (counts_of program) t of) → is_plain program lit.var ≡ true
-plain_part program t parts.Final lit i =
-    ⊎_elim (λ (e : lit_of (end_at (counts_of program) t) ≡ lit). subst (λ (l : Lit). is_plain program l.var ≡ true) e (plain_end program t)) (λ m. absurd m) i
-plain_part program t parts.Initial lit i = absurd i
-plain_part program t parts.Dynamic lit i = absurd i
-plain_part program t parts.Always lit i = absurd i
+up_to_part : (program : Ground) (t : ℕ) (of : Part) (lit : Lit) → In lit (part_lits (counts_of program) t of) → IsUpTo program t lit.var
+up_to_part program t parts.Final lit i =
+    ⊎_elim (λ (e : lit_of (end_at (counts_of program) t) ≡ lit). inr (inl (t, omega arith, ap (λ (l : Lit). l.var) e))) (λ m. absurd m) i
+up_to_part program t parts.Initial lit i = absurd i
+up_to_part program t parts.Dynamic lit i = absurd i
+up_to_part program t parts.Always lit i = absurd i
 
 right_body : (program : Ground) (instance : Instance) → IsGround program → In instance program.instances → list_all (literal_in_range (length program.atoms) (length program.nodes)) instance.body ≡ true
 right_body program instance ground member =
     let right = In-list_all (instance_in_range (length program.atoms) (length program.nodes)) instance program.instances ground.in_range member in
     (and_parts (head_in_range (length program.atoms) instance.head) (list_all (literal_in_range (length program.atoms) (length program.nodes)) instance.body) right).1
 
-plain_body : (program : Ground) (t : ℕ) (def : BodyDef) (lit : Lit) → IsGround program → In def (module_of program t).bodies → In lit def.lits → is_plain program lit.var ≡ true
-plain_body program t def lit ground m i =
+pub up_to_body : (program : Ground) (t : ℕ) (def : BodyDef) (lit : Lit) → IsGround program → In def (module_of program t).bodies → In lit def.lits → IsUpTo program t lit.var
+up_to_body program t def lit ground m i =
     let counts = counts_of program in
     let w = body_at_state program t def m in
     let here : In lit (body_lits counts t w.instance) = subst (λ (d : BodyDef). In lit d.lits) (sym w.is) i in
     ⊎_elim
     (λ a.
     let k = In-flat_map_from (literal_lits counts t) lit w.instance.body a in
-    plain_item program t k.0.positive k.0.item lit (In-list_all (literal_in_range (length program.atoms) (length program.nodes)) k.0 w.instance.body (right_body program w.instance ground w.member) k.1) k.2)
-    (λ b. plain_part program t w.instance.part lit b)
+    up_to_item program t k.0.positive k.0.item lit (In-list_all (literal_in_range (length program.atoms) (length program.nodes)) k.0 w.instance.body (right_body program w.instance ground w.member) k.1) k.2)
+    (λ b. up_to_part program t w.instance.part lit b)
     (In-append_cases lit (flat_map (literal_lits counts t) w.instance.body) (part_lits counts t w.instance.part) here)
+
+plain_body : (program : Ground) (t : ℕ) (def : BodyDef) (lit : Lit) → IsGround program → In def (module_of program t).bodies → In lit def.lits → is_plain program lit.var ≡ true
+plain_body program t def lit ground m i = plain_up_to program t lit.var (up_to_body program t def lit ground m i)
 
 -- ---- heads and pairs
 
@@ -139,12 +142,17 @@ plain_head program t var h =
     subst (λ (v : ℕ). is_plain program v ≡ true) (ap (λ (node : NodeRule). node.var) w.2 ∙ k.2) (plain_node program t w.0 w.1))
     h
 
-plain_pair : (program : Ground) (t : ℕ) (pair : ℕ × ℕ) → IsGround program → In pair (pairs_at program t) → (is_plain program pair.0 ≡ true) × (is_plain program pair.1 ≡ true)
-plain_pair program t pair ground i =
+pub up_to_pair : (program : Ground) (t : ℕ) (pair : ℕ × ℕ) → IsGround program → In pair (pairs_at program t) → IsUpTo program t pair.0 × IsUpTo program t pair.1
+up_to_pair program t pair ground i =
     let counts = counts_of program in
     let w = In-map_from (λ (p : ℕ × ℕ). (visible counts p.0 t, visible counts p.1 t)) pair program.pairs i in
     let l = pair_below program.atoms w.0 (subst (λ (all : List (ℕ × ℕ)). In w.0 all) ground.paired w.1) in
-    (subst (λ (p : ℕ × ℕ). is_plain program p.0 ≡ true) w.2 (plain_atom program t w.0.0 l.0), subst (λ (p : ℕ × ℕ). is_plain program p.1 ≡ true) w.2 (plain_atom program t w.0.1 l.1))
+    (inl (t, w.0.0, omega arith, l.0, ap (λ (p : ℕ × ℕ). p.0) w.2), inl (t, w.0.1, omega arith, l.1, ap (λ (p : ℕ × ℕ). p.1) w.2))
+
+plain_pair : (program : Ground) (t : ℕ) (pair : ℕ × ℕ) → IsGround program → In pair (pairs_at program t) → (is_plain program pair.0 ≡ true) × (is_plain program pair.1 ≡ true)
+plain_pair program t pair ground i =
+    let up = up_to_pair program t pair ground i in
+    (plain_up_to program t pair.0 up.0, plain_up_to program t pair.1 up.1)
 
 plain_node_lits : (program : Ground) (t : ℕ) (node : NodeRule) (lits : List Lit) (lit : Lit) → IsGround program → In node (module_of program t).nodes → In lits (shape_bodies node.shape) → In lit lits → is_plain program lit.var ≡ true
 plain_node_lits program t node lits lit ground m i j =
@@ -305,7 +313,7 @@ pub record IsOpen (program : Ground) (t var : ℕ) : Type 0 where
 place_of : (low w var : ℕ) → low ≤ var → var < low + w → (low + (var - low) ≡ var) × (var - low < w)
 place_of low w var l u = (omega (arith, l), omega (arith, l, u))
 
-is_open : (program : Ground) (t var : ℕ) → In var (module_of program t).open_vars → IsOpen program t var
+pub is_open : (program : Ground) (t var : ℕ) → In var (module_of program t).open_vars → IsOpen program t var
 is_open program t var i =
     let w = width (counts_of program) in
     let low = (t + 1) * w in
@@ -323,7 +331,7 @@ not_past program t var o past =
     let e = one_state (width (counts_of program)) (t + 1) past.state o.place past.place o.within past.within (o.is ∙ sym past.is) in
     omega (arith, e, l)
 
-plain_open : (program : Ground) (t var : ℕ) → IsGround program → In var (module_of program t).open_vars → is_plain program var ≡ true
+pub plain_open : (program : Ground) (t var : ℕ) → IsGround program → In var (module_of program t).open_vars → is_plain program var ≡ true
 plain_open program t var ground i =
     let o = is_open program t var i in
     ⊎_elim (λ h. h) (λ past. absurd (not_past program t var o past)) (said program t var ground o.inside)

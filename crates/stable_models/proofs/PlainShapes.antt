@@ -1,8 +1,8 @@
--- The variables of the shape of a node are of atoms, nodes and ends.
-use Rattle.std.proofs.Common.{◌≡◌, ℕ, ◌+◌, ◌-◌, ◌*◌, ◌<◌, Bool, true, false, cond, ◌&&◌, ◌||◌, List, [], ◌∷◌, length, map, refl, sym, ap, subst, ◌∙◌, inl, inr, ⊎_elim, arith}
+-- The variables of the shape of a node are of atoms, nodes and ends, and of which states.
+use Rattle.std.proofs.Common.{◌≡◌, ℕ, zero, suc, ◌+◌, ◌-◌, ◌*◌, ◌<◌, ◌≤◌, Bool, true, false, cond, ◌&&◌, ◌||◌, List, [], ◌∷◌, length, map, refl, sym, ap, subst, ◌∙◌, inl, inr, ◌⊎◌, ⊎_elim, arith}
 use Rattle.std.specs.Prelude.{nat_lt, ◌==◌}
 use Rattle.std.specs.List.{list_all}
-use Rattle.std.proofs.lemmas.Bool.{and_parts, and_from, or_left, or_right, lt-ltb, ltb-true, eq-eqb}
+use Rattle.std.proofs.lemmas.Bool.{and_parts, and_from, or_left, or_right, lt-ltb, ltb-true, eq-eqb, false≢true}
 use Rattle.std.proofs.lemmas.Nat.{mod-mul-add}
 use Rattle.tel_base.specs.declared.literals.Lit.{Lit}
 use Rattle.tel_base.specs.Literals.{lit_of, negate}
@@ -32,7 +32,8 @@ use Rattle.horizon_external.specs.Occurring.{lit_vars, shape_vars}
 use Rattle.formula_unfold.specs.Unfold.{kid_var, kid_of, by_state, const_shape, unary_shape, binary_shape, many_shape, op_shape}
 use Rattle.formula_unfold.specs.Nodes.{counts_of, node_of, shape_at}
 use Rattle.stable_models.specs.Values.{is_plain}
-use Rattle.stable_models.proofs.Parts.{at_node}
+use Rattle.stable_models.proofs.NodeSteps.{op_on}
+use Rattle.stable_models.proofs.Parts.{at_node, on_at}
 
 -- ---- plain variables
 
@@ -56,10 +57,23 @@ plain_end program t =
     let place = length program.atoms + length program.nodes + length program.instances in
     plain_at program t place (omega arith) (or_right _ _ (eq-eqb place place refl))
 
-plain_kid : (program : Ground) (x t : ℕ) (kid : Kid) → is_kid (length program.atoms) (length program.nodes) x kid ≡ true → is_plain program (kid_var (counts_of program) kid t) ≡ true
-plain_kid program x t (kids.Atom atom) h = plain_atom program t atom (ltb-true atom (length program.atoms) h)
-plain_kid program x t (kids.Node y) h =
-    plain_node program t y (ltb-true y (length program.nodes) (and_parts (nat_lt x y) (nat_lt y (length program.nodes)) h).1)
+-- the variable is of an atom, an end or a node of a state up to this one
+abbrev pub IsUpTo : Ground → ℕ → ℕ → Type 0
+IsUpTo program last v =
+    ((k a : ℕ) × (k ≤ last) × (a < length program.atoms) × (visible (counts_of program) a k ≡ v))
+    ⊎ (((k : ℕ) × (k ≤ last) × (end_at (counts_of program) k ≡ v))
+    ⊎ ((k y : ℕ) × (k ≤ last) × (y < length program.nodes) × (part (counts_of program) y k ≡ v)))
+
+pub plain_up_to : (program : Ground) (last v : ℕ) → IsUpTo program last v → is_plain program v ≡ true
+plain_up_to program last v up =
+    let of = λ (u : ℕ) (e : u ≡ v) (h : is_plain program u ≡ true). subst (λ (w : ℕ). is_plain program w ≡ true) e h in
+    ⊎_elim
+    (λ a. of (visible (counts_of program) a.1 a.0) a.4 (plain_atom program a.0 a.1 a.3))
+    (λ r. ⊎_elim
+    (λ e. of (end_at (counts_of program) e.0) e.2 (plain_end program e.0))
+    (λ b. of (part (counts_of program) b.1 b.0) b.4 (plain_node program b.0 b.1 b.3))
+    r)
+    up
 
 -- ---- shapes
 
@@ -67,7 +81,7 @@ in_body : (body lits : List Lit) (lit : Lit) → In lits (body ∷ []) → In li
 in_body body lits lit i j = ⊎_elim (λ (e : body ≡ lits). subst (λ (ls : List Lit). In lit ls) (sym e) j) (λ m. absurd m) i
 
 -- a literal of a body of a shape is over one of its variables
-body_var : (shape : Shape) (lits : List Lit) (lit : Lit) → In lits (shape_bodies shape) → In lit lits → In lit.var (shape_vars shape)
+pub body_var : (shape : Shape) (lits : List Lit) (lit : Lit) → In lits (shape_bodies shape) → In lit lits → In lit.var (shape_vars shape)
 body_var shapes.True lits lit i j = ⊎_elim (λ (e : [] ≡ lits). absurd (subst (λ (ls : List Lit). In lit ls) (sym e) j)) (λ m. absurd m) i
 body_var shapes.False lits lit i j = absurd i
 body_var (shapes.Is y) lits lit i j = In-map (λ (l : Lit). l.var) lit (y ∷ []) (in_body (y ∷ []) lits lit i j)
@@ -89,85 +103,137 @@ body_var (shapes.Same y z) lits lit i j =
     (λ r. In-map (λ (l : Lit). l.var) lit (negate y ∷ negate z ∷ []) (in_body (negate y ∷ negate z ∷ []) lits lit r j))
     i
 
-module _ (P : Set) where
+-- ---- the states of the variables of a shape
+
+-- the state that an operator looks at for its own value: the one after where it is of the future, else the one before
+abbrev pub Turns : Bool → ℕ → ℕ → Type 0
+Turns true t k = k ≡ t + 1
+Turns false t k = k + 1 ≡ t
+
+before_it : (t : ℕ) → (t == 0) ≡ false → t - 1 + 1 ≡ t
+before_it zero e = absurd (false≢true (sym e ∙ eq-eqb 0 0 refl))
+before_it (suc t) e = omega arith
+
+module _ (P : ℕ → Type 0) where
+  abbrev Each : List ℕ → Type 0
+  Each vars = (v : ℕ) → In v vars → P v
+
   -- all variables of a shape
-  abbrev pub all_vars : Shape → Bool
-  all_vars shape = list_all P (shape_vars shape)
+  abbrev pub all_vars : Shape → Type 0
+  all_vars shape = Each (shape_vars shape)
 
-  one : (v : ℕ) → P v ≡ true → list_all P (v ∷ []) ≡ true
-  one v h = and_from (P v) true h refl
+  one : (v : ℕ) → P v → Each (v ∷ [])
+  one v h u i = ⊎_elim (λ e. subst P e h) (λ m. absurd m) i
 
-  two : (v w : ℕ) → P v ≡ true → P w ≡ true → list_all P (v ∷ w ∷ []) ≡ true
-  two v w h k = and_from (P v) (P w && true) h (one w k)
+  two : (v w : ℕ) → P v → P w → Each (v ∷ w ∷ [])
+  two v w h k u i = ⊎_elim (λ e. subst P e h) (λ m. one w k u m) i
 
-  three : (v w u : ℕ) → P v ≡ true → P w ≡ true → P u ≡ true → list_all P (v ∷ w ∷ u ∷ []) ≡ true
-  three v w u h k m = and_from (P v) (P w && (P u && true)) h (two w u k m)
+  three : (v w x : ℕ) → P v → P w → P x → Each (v ∷ w ∷ x ∷ [])
+  three v w x h k l u i = ⊎_elim (λ e. subst P e h) (λ m. two w x k l u m) i
 
-  four : (v w u z : ℕ) → P v ≡ true → P w ≡ true → P u ≡ true → P z ≡ true → list_all P (v ∷ w ∷ u ∷ z ∷ []) ≡ true
-  four v w u z h k m o = and_from (P v) (P w && (P u && (P z && true))) h (three w u z k m o)
+  four : (v w x y : ℕ) → P v → P w → P x → P y → Each (v ∷ w ∷ x ∷ y ∷ [])
+  four v w x y h k l o u i = ⊎_elim (λ e. subst P e h) (λ m. three w x y k l o u m) i
 
-  of_state : (t : ℕ) (first later : Shape) → all_vars first ≡ true → all_vars later ≡ true → all_vars (by_state t first later) ≡ true
-  of_state t first later h k = elim (t == 0) as (λ (b : Bool). all_vars (cond b first later) ≡ true) [ true ↦ h | false ↦ k ]
+  none : (vars : List ℕ) → vars ≡ [] → Each vars
+  none vars e u i = absurd (subst (λ (vs : List ℕ). In u vs) e i)
 
-  const_plain : (op : ConstOp) (last t : ℕ) → P last ≡ true → all_vars (const_shape op last t) ≡ true
-  const_plain constants.True last t h = refl
-  const_plain constants.False last t h = refl
-  const_plain constants.Initial last t h = of_state t shapes.True shapes.False refl refl
-  const_plain constants.Final last t h = one last h
+  of_state : (t : ℕ) (first later : Shape) → all_vars first → (t - 1 + 1 ≡ t → all_vars later) → all_vars (by_state t first later)
+  of_state t first later h k = (elim (t == 0) as (λ (b : Bool). (t == 0) ≡ b → all_vars (cond b first later)) [ true ↦ λ e. h | false ↦ λ e. k (before_it t e) ]) refl
 
-  unary_plain : (op : UnaryOp) (kid own : ℕ → ℕ) (last t : ℕ) → ((k : ℕ) → P (kid k) ≡ true) → ((k : ℕ) → P (own k) ≡ true) → P last ≡ true → all_vars (unary_shape op kid own last t) ≡ true
-  unary_plain unary.Not kid own last t a b c = one (kid t) (a t)
-  unary_plain unary.Previous kid own last t a b c = of_state t shapes.False (shapes.Is (lit_of (kid (t - 1)))) refl (one (kid (t - 1)) (a (t - 1)))
-  unary_plain unary.WeakPrevious kid own last t a b c = of_state t shapes.True (shapes.Is (lit_of (kid (t - 1)))) refl (one (kid (t - 1)) (a (t - 1)))
-  unary_plain unary.AlwaysBefore kid own last t a b c = of_state t (shapes.Is (lit_of (kid t))) (shapes.All (lit_of (kid t) ∷ lit_of (own (t - 1)) ∷ [])) (one (kid t) (a t)) (two (kid t) (own (t - 1)) (a t) (b (t - 1)))
-  unary_plain unary.OnceBefore kid own last t a b c = of_state t (shapes.Is (lit_of (kid t))) (shapes.Any (lit_of (kid t) ∷ lit_of (own (t - 1)) ∷ [])) (one (kid t) (a t)) (two (kid t) (own (t - 1)) (a t) (b (t - 1)))
-  unary_plain unary.Initially kid own last t a b c = of_state t (shapes.Is (lit_of (kid t))) (shapes.Is (lit_of (own (t - 1)))) (one (kid t) (a t)) (one (own (t - 1)) (b (t - 1)))
-  unary_plain unary.Next kid own last t a b c = one (kid (t + 1)) (a (t + 1))
-  unary_plain unary.WeakNext kid own last t a b c = two last (kid (t + 1)) c (a (t + 1))
-  unary_plain unary.AlwaysAfter kid own last t a b c = three (kid t) last (own (t + 1)) (a t) c (b (t + 1))
-  unary_plain unary.OnceAfter kid own last t a b c = two (kid t) (own (t + 1)) (a t) (b (t + 1))
-  unary_plain unary.Finally kid own last t a b c = three (own (t + 1)) (kid t) last (b (t + 1)) (a t) c
+  const_near : (op : ConstOp) (last t : ℕ) → P last → all_vars (const_shape op last t)
+  const_near constants.True last t h = none [] refl
+  const_near constants.False last t h = none [] refl
+  const_near constants.Initial last t h = of_state t shapes.True shapes.False (none [] refl) (λ e. none [] refl)
+  const_near constants.Final last t h = one last h
 
-  binary_plain : (op : BinaryOp) (f g own : ℕ → ℕ) (last t : ℕ) → ((k : ℕ) → P (f k) ≡ true) → ((k : ℕ) → P (g k) ≡ true) → ((k : ℕ) → P (own k) ≡ true) → P last ≡ true → all_vars (binary_shape op f g own last t) ≡ true
-  binary_plain binary.Since f g own last t a b c d =
-      of_state t (shapes.Is (lit_of (g t))) (shapes.AnyAll (lit_of (g t)) (lit_of (f t)) (lit_of (own (t - 1)))) (one (g t) (b t)) (three (g t) (f t) (own (t - 1)) (b t) (a t) (c (t - 1)))
-  binary_plain binary.Trigger f g own last t a b c d =
-      of_state t (shapes.Is (lit_of (g t))) (shapes.AllAny (lit_of (g t)) (lit_of (f t) ∷ lit_of (own (t - 1)) ∷ [])) (one (g t) (b t)) (three (g t) (f t) (own (t - 1)) (b t) (a t) (c (t - 1)))
-  binary_plain binary.Until f g own last t a b c d = three (g t) (f t) (own (t + 1)) (b t) (a t) (c (t + 1))
-  binary_plain binary.Release f g own last t a b c d = four (g t) (f t) last (own (t + 1)) (b t) (a t) d (c (t + 1))
-  binary_plain binary.Implies f g own last t a b c d = two (f t) (g t) (a t) (b t)
-  binary_plain binary.ImpliedBy f g own last t a b c d = two (f t) (g t) (a t) (b t)
-  binary_plain binary.Same f g own last t a b c d = two (f t) (g t) (a t) (b t)
+  unary_near : (op : UnaryOp) (kid own : ℕ → ℕ) (last t : ℕ) → ((k : ℕ) → k ≤ t + 1 → P (kid k)) → ((k : ℕ) → Turns (op_on (ops.Unary op)) t k → P (own k)) → P last → all_vars (unary_shape op kid own last t)
+  unary_near unary.Not kid own last t a b c = one (kid t) (a t (omega arith))
+  unary_near unary.Previous kid own last t a b c = of_state t shapes.False (shapes.Is (lit_of (kid (t - 1)))) (none [] refl) (λ e. one (kid (t - 1)) (a (t - 1) (omega arith)))
+  unary_near unary.WeakPrevious kid own last t a b c = of_state t shapes.True (shapes.Is (lit_of (kid (t - 1)))) (none [] refl) (λ e. one (kid (t - 1)) (a (t - 1) (omega arith)))
+  unary_near unary.AlwaysBefore kid own last t a b c = of_state t (shapes.Is (lit_of (kid t))) (shapes.All (lit_of (kid t) ∷ lit_of (own (t - 1)) ∷ [])) (one (kid t) (a t (omega arith))) (λ e. two (kid t) (own (t - 1)) (a t (omega arith)) (b (t - 1) e))
+  unary_near unary.OnceBefore kid own last t a b c = of_state t (shapes.Is (lit_of (kid t))) (shapes.Any (lit_of (kid t) ∷ lit_of (own (t - 1)) ∷ [])) (one (kid t) (a t (omega arith))) (λ e. two (kid t) (own (t - 1)) (a t (omega arith)) (b (t - 1) e))
+  unary_near unary.Initially kid own last t a b c = of_state t (shapes.Is (lit_of (kid t))) (shapes.Is (lit_of (own (t - 1)))) (one (kid t) (a t (omega arith))) (λ e. one (own (t - 1)) (b (t - 1) e))
+  unary_near unary.Next kid own last t a b c = one (kid (t + 1)) (a (t + 1) (omega arith))
+  unary_near unary.WeakNext kid own last t a b c = two last (kid (t + 1)) c (a (t + 1) (omega arith))
+  unary_near unary.AlwaysAfter kid own last t a b c = three (kid t) last (own (t + 1)) (a t (omega arith)) c (b (t + 1) refl)
+  unary_near unary.OnceAfter kid own last t a b c = two (kid t) (own (t + 1)) (a t (omega arith)) (b (t + 1) refl)
+  unary_near unary.Finally kid own last t a b c = three (own (t + 1)) (kid t) last (b (t + 1) refl) (a t (omega arith)) c
+
+  binary_near : (op : BinaryOp) (f g own : ℕ → ℕ) (last t : ℕ) → ((k : ℕ) → k ≤ t + 1 → P (f k)) → ((k : ℕ) → k ≤ t + 1 → P (g k)) → ((k : ℕ) → Turns (op_on (ops.Binary op)) t k → P (own k)) → P last → all_vars (binary_shape op f g own last t)
+  binary_near binary.Since f g own last t a b c d =
+      of_state t (shapes.Is (lit_of (g t))) (shapes.AnyAll (lit_of (g t)) (lit_of (f t)) (lit_of (own (t - 1)))) (one (g t) (b t (omega arith))) (λ e. three (g t) (f t) (own (t - 1)) (b t (omega arith)) (a t (omega arith)) (c (t - 1) e))
+  binary_near binary.Trigger f g own last t a b c d =
+      of_state t (shapes.Is (lit_of (g t))) (shapes.AllAny (lit_of (g t)) (lit_of (f t) ∷ lit_of (own (t - 1)) ∷ [])) (one (g t) (b t (omega arith))) (λ e. three (g t) (f t) (own (t - 1)) (b t (omega arith)) (a t (omega arith)) (c (t - 1) e))
+  binary_near binary.Until f g own last t a b c d = three (g t) (f t) (own (t + 1)) (b t (omega arith)) (a t (omega arith)) (c (t + 1) refl)
+  binary_near binary.Release f g own last t a b c d = four (g t) (f t) last (own (t + 1)) (b t (omega arith)) (a t (omega arith)) d (c (t + 1) refl)
+  binary_near binary.Implies f g own last t a b c d = two (f t) (g t) (a t (omega arith)) (b t (omega arith))
+  binary_near binary.ImpliedBy f g own last t a b c d = two (f t) (g t) (a t (omega arith)) (b t (omega arith))
+  binary_near binary.Same f g own last t a b c d = two (f t) (g t) (a t (omega arith)) (b t (omega arith))
 
 -- ---- the nodes of a program
 
-many_lits : (program : Ground) (list : List Kid) (t : ℕ) → ((kid : Kid) → In kid list → is_plain program (kid_var (counts_of program) kid t) ≡ true) → list_all (is_plain program) (lit_vars (map (λ (kid : Kid). lit_of (kid_var (counts_of program) kid t)) list)) ≡ true
-many_lits program [] t h = refl
-many_lits program (kid ∷ list) t h =
-    and_from (is_plain program (kid_var (counts_of program) kid t)) (list_all (is_plain program) (lit_vars (map (λ (k : Kid). lit_of (kid_var (counts_of program) k t)) list))) (h kid (inl refl)) (many_lits program list t (λ k i. h k (inr i)))
+-- a node behind x, or x itself at the state that it looks at for its own value
+abbrev pub IsBehind : Ground → ℕ → ℕ → ℕ → ℕ → Type 0
+IsBehind program x t y k = (x < y) ⊎ ((y ≡ x) × Turns (on_at program x) t k)
 
-many_plain : (program : Ground) (op : ManyOp) (list : List Kid) (t : ℕ) → ((kid : Kid) → In kid list → is_plain program (kid_var (counts_of program) kid t) ≡ true) → all_vars (is_plain program) (many_shape (counts_of program) op list t) ≡ true
-many_plain program many.And list t h = many_lits program list t h
-many_plain program many.Or list t h = many_lits program list t h
+-- what the shape of the node x at the state t may speak of: atoms and nodes behind it, up to the next state, its end, and its own value at one
+-- other state
+abbrev pub IsNear : Ground → ℕ → ℕ → ℕ → Type 0
+IsNear program x t v =
+    ((k a : ℕ) × (k ≤ t + 1) × (a < length program.atoms) × (visible (counts_of program) a k ≡ v))
+    ⊎ ((end_at (counts_of program) t ≡ v)
+    ⊎ ((k y : ℕ) × (k ≤ t + 1) × (y < length program.nodes) × IsBehind program x t y k × (part (counts_of program) y k ≡ v)))
 
-op_plain : (program : Ground) (op : NodeOp) (list : List Kid) (x t : ℕ) → x < length program.nodes → IsNodeAt program x op list → all_vars (is_plain program) (op_shape (counts_of program) op list x t) ≡ true
-op_plain program (ops.Const op) list x t l node = const_plain (is_plain program) op (end_at (counts_of program) t) t (plain_end program t)
-op_plain program (ops.Unary op) list x t l node =
+near_kid : (program : Ground) (x t k : ℕ) (kid : Kid) → is_kid (length program.atoms) (length program.nodes) x kid ≡ true → k ≤ t + 1 → IsNear program x t (kid_var (counts_of program) kid k)
+near_kid program x t k (kids.Atom atom) h l = inl (k, atom, l, ltb-true atom (length program.atoms) h, refl)
+near_kid program x t k (kids.Node y) h l =
+    let both = and_parts (nat_lt x y) (nat_lt y (length program.nodes)) h in
+    inr (inr (k, y, l, ltb-true y (length program.nodes) both.1, inl (ltb-true x y both.0), refl))
+
+near_end : (program : Ground) (x t : ℕ) → IsNear program x t (end_at (counts_of program) t)
+near_end program x t = inr (inl refl)
+
+turned : (b : Bool) (t k : ℕ) → Turns b t k → k ≤ t + 1
+turned true t k e = omega (arith, e)
+turned false t k e = omega (arith, e)
+
+near_own : (program : Ground) (x t k : ℕ) → x < length program.nodes → Turns (on_at program x) t k → IsNear program x t (part (counts_of program) x k)
+near_own program x t k l turns = inr (inr (k, x, turned (on_at program x) t k turns, l, inr (refl, turns), refl))
+
+many_near : (program : Ground) (x t : ℕ) (list : List Kid) → ((kid : Kid) → In kid list → is_kid (length program.atoms) (length program.nodes) x kid ≡ true) → (v : ℕ) → In v (lit_vars (map (λ (kid : Kid). lit_of (kid_var (counts_of program) kid t)) list)) → IsNear program x t v
+many_near program x t [] right v i = absurd i
+many_near program x t (kid ∷ list) right v i =
+    ⊎_elim (λ e. subst (IsNear program x t) e (near_kid program x t t kid (right kid (inl refl)) (omega arith))) (λ m. many_near program x t list (λ k j. right k (inr j)) v m) i
+
+-- the shape of an operator, whose own value is looked at by a node that goes on where the operator does
+op_near : (program : Ground) (op : NodeOp) (list : List Kid) (x t : ℕ) → x < length program.nodes → IsNodeAt program x op list → on_at program x ≡ op_on op → all_vars (IsNear program x t) (op_shape (counts_of program) op list x t)
+op_near program (ops.Const op) list x t l node on = const_near (IsNear program x t) op (end_at (counts_of program) t) t (near_end program x t)
+op_near program (ops.Unary op) list x t l node on =
     let count = unary_count node in
     let right = kid-right (length program.atoms) (length program.nodes) x list 0 (kids.Atom 0) node.right (omega (arith, count)) in
-    unary_plain (is_plain program) op (kid_var (counts_of program) (kid_of list 0)) (part (counts_of program) x) (end_at (counts_of program) t) t (λ k. plain_kid program x k (kid_of list 0) right) (λ k. plain_node program k x l) (plain_end program t)
-op_plain program (ops.Binary op) list x t l node =
+    unary_near (IsNear program x t) op (kid_var (counts_of program) (kid_of list 0)) (part (counts_of program) x) (end_at (counts_of program) t) t (λ k m. near_kid program x t k (kid_of list 0) right m) (λ k turns. near_own program x t k l (subst (λ (b : Bool). Turns b t k) (sym on) turns)) (near_end program x t)
+op_near program (ops.Binary op) list x t l node on =
     let count = binary_count node in
     let first = kid-right (length program.atoms) (length program.nodes) x list 0 (kids.Atom 0) node.right (omega (arith, count)) in
     let second = kid-right (length program.atoms) (length program.nodes) x list 1 (kids.Atom 0) node.right (omega (arith, count)) in
-    binary_plain (is_plain program) op (kid_var (counts_of program) (kid_of list 0)) (kid_var (counts_of program) (kid_of list 1)) (part (counts_of program) x) (end_at (counts_of program) t) t (λ k. plain_kid program x k (kid_of list 0) first) (λ k. plain_kid program x k (kid_of list 1) second) (λ k. plain_node program k x l) (plain_end program t)
-op_plain program (ops.Many op) list x t l node =
-    many_plain program op list t (λ kid i. plain_kid program x t kid (In-list_all (is_kid (length program.atoms) (length program.nodes) x) kid list node.right i))
+    binary_near (IsNear program x t) op (kid_var (counts_of program) (kid_of list 0)) (kid_var (counts_of program) (kid_of list 1)) (part (counts_of program) x) (end_at (counts_of program) t) t (λ k m. near_kid program x t k (kid_of list 0) first m) (λ k m. near_kid program x t k (kid_of list 1) second m) (λ k turns. near_own program x t k l (subst (λ (b : Bool). Turns b t k) (sym on) turns)) (near_end program x t)
+op_near program (ops.Many many.And) list x t l node on = many_near program x t list (λ kid i. In-list_all (is_kid (length program.atoms) (length program.nodes) x) kid list node.right i)
+op_near program (ops.Many many.Or) list x t l node on = many_near program x t list (λ kid i. In-list_all (is_kid (length program.atoms) (length program.nodes) x) kid list node.right i)
+
+pub shape_near : (program : Ground) (x t var : ℕ) → IsGround program → x < length program.nodes → In var (shape_vars (shape_at program x t)) → IsNear program x t var
+shape_near program x t var ground l i =
+    let node = node_of program.nodes x in
+    op_near program node.op node.kids x t l (at_node program x ground l) refl var i
+
+pub shape_up_to : (program : Ground) (x t var : ℕ) → IsGround program → x < length program.nodes → In var (shape_vars (shape_at program x t)) → IsUpTo program (t + 1) var
+shape_up_to program x t var ground l i =
+    ⊎_elim
+    (λ a. inl (a.0, a.1, a.2, a.3, a.4))
+    (λ r. ⊎_elim (λ e. inr (inl (t, omega arith, e))) (λ b. inr (inr (b.0, b.1, b.2, b.3, b.5))) r)
+    (shape_near program x t var ground l i)
 
 pub shape_plain : (program : Ground) (x t var : ℕ) → IsGround program → x < length program.nodes → In var (shape_vars (shape_at program x t)) → is_plain program var ≡ true
-shape_plain program x t var ground l i =
-    let node = node_of program.nodes x in
-    In-list_all (is_plain program) var (shape_vars (shape_at program x t)) (op_plain program node.op node.kids x t l (at_node program x ground l)) i
+shape_plain program x t var ground l i = plain_up_to program (t + 1) var (shape_up_to program x t var ground l i)
 
 pub plain_shape : (program : Ground) (x t : ℕ) (lits : List Lit) (lit : Lit) → IsGround program → x < length program.nodes → In lits (shape_bodies (shape_at program x t)) → In lit lits → is_plain program lit.var ≡ true
 plain_shape program x t lits lit ground l i j = shape_plain program x t lit.var ground l (body_var (shape_at program x t) lits lit i j)
