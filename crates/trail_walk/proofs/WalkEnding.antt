@@ -31,7 +31,7 @@ closed_up_to clauses trail level sound levels closed l =
     ⊎_elim (λ (e : level ≡ trail.level). subst (IsClosedTrail clauses) (sym (back_all trail.entries trail.level level levels (omega (arith, e)))) closed) (λ ne. ⊎_elim (λ (m : level < trail.level). sound.below level m) (λ (m : trail.level < level). absurd (omega (arith, m, l))) ne) (cases_order level trail.level)
 
 -- a closed trail on its way is a walk
-walking : (clauses : List Clause) (length : Length) (trail : View) → IsSound clauses trail → AreLevels trail.level trail.entries → AreOpened trail.entries → IsClosedTrail clauses trail.entries → (way : IsOnWay length trail) → IsWalking length clauses trail.entries way.last way.decisions
+pub walking : (clauses : List Clause) (length : Length) (trail : View) → IsSound clauses trail → AreLevels trail.level trail.entries → AreOpened trail.entries → IsClosedTrail clauses trail.entries → (way : IsOnWay length trail) → IsWalking length clauses trail.entries way.last way.decisions
 walking clauses length trail sound levels opened closed way =
     let at = way.level in
     record {

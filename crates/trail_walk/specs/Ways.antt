@@ -31,7 +31,7 @@ pub record IsEnded (end : Lit) (trail : View) : Type 0 where
 -- whether level 1 could be opened with the end
 abbrev pub Opens : Bool → List Clause → Lit → View → Type 0
 Opens true clauses end trail = (trail.level ≡ 1) × IsEnded end trail
-Opens false clauses end trail = Conflict clauses (end ∷ [])
+Opens false clauses end trail = (trail.level ≡ 0) × Conflict clauses (end ∷ [])
 
 -- the trail is on the walk of a length: after the end, each level was opened by the next decision
 pub record IsOnWay (length : Length) (trail : View) : Type 0 where

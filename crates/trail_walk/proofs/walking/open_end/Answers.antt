@@ -14,7 +14,7 @@ returns-in-Conflict-clause-opens c =
     let clauses = clauses_in c.args.store.now.clauses in
     let reasons = subst (λ (held : List Held). ReasonsHold (clauses_in held) trail.entries) c.close.ensures.clauses c.close.ensures.ready.sound.reasons in
     let levels = subst (λ (n : ℕ). AreLevels n trail.entries) (c.close.ensures.level ∙ c.requires.level) c.close.ensures.levels in
-    false_at_first clauses trail.entries c.args.end c.in-Conflict.field-0 reasons levels c.close.ensures.ordered.opened c.in-Conflict.ensures.conflict
+    (c.close.ensures.level ∙ c.requires.level, false_at_first clauses trail.entries c.args.end c.in-Conflict.field-0 reasons levels c.close.ensures.ordered.opened c.in-Conflict.ensures.conflict)
 
 pub returns-in-Some-false-clause-opens : goal.returns-in-Some-false-clause-opens
 returns-in-Some-false-clause-opens c =
@@ -22,7 +22,7 @@ returns-in-Some-false-clause-opens c =
     let clauses = clauses_in c.args.store.now.clauses in
     let reasons = subst (λ (held : List Held). ReasonsHold (clauses_in held) trail.entries) c.close.ensures.clauses c.close.ensures.ready.sound.reasons in
     let levels = subst (λ (n : ℕ). AreLevels n trail.entries) (c.close.ensures.level ∙ c.requires.level) c.close.ensures.levels in
-    end_conflict clauses trail.entries c.args.end reasons levels c.close.ensures.ordered.opened (value_false trail.entries c.args.end (sym c.in-Some-false.ensures ∙ ap Some c.in-Some-false.field-0-test))
+    (c.close.ensures.level ∙ c.requires.level, end_conflict clauses trail.entries c.args.end reasons levels c.close.ensures.ordered.opened (value_false trail.entries c.args.end (sym c.in-Some-false.ensures ∙ ap Some c.in-Some-false.field-0-test)))
 
 pub returns-in-Some-true-clause-opens : goal.returns-in-Some-true-clause-opens
 returns-in-Some-true-clause-opens c =
