@@ -59,7 +59,7 @@ pub given : (entry : Entry) (older : List Entry) (k : ℕ) → is_decided entry.
 given entry older k f =
     cond-false ((entry.level == k) && is_decided entry.reason) (Some entry.lit) (decision_in older k) (ap (λ (b : Bool). (entry.level == k) && b) f ∙ and_right (entry.level == k) false refl)
 
-decision_back : (entries : List Entry) (k m : ℕ) → k ≤ m → decision_in (back m entries) k ≡ decision_in entries k
+pub decision_back : (entries : List Entry) (k m : ℕ) → k ≤ m → decision_in (back m entries) k ≡ decision_in entries k
 decision_back [] k m l = refl
 decision_back (entry ∷ older) k m l =
     ⊎_elim (λ (over : m < entry.level). ap (λ (es : List Entry). decision_in es k) (dropped m entry older over) ∙ decision_back older k m l ∙ sym (passed entry older k (λ e. absurd (omega (arith, e, over, l))))) (λ (under : entry.level ≤ m). ap (λ (es : List Entry). decision_in es k) (kept m entry older under)) (order_of m entry)
