@@ -1,0 +1,4 @@
+pub mod Additions
+pub mod SecondLevels
+pub mod Conflicts
+pub mod WaysBack
