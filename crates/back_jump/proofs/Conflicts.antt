@@ -1,15 +1,14 @@
 -- A false clause: it has a literal of the trail's level where the levels below are closed, and what a closed level doesn't absorb.
 use Rattle.std.proofs.Common.{◌≡◌, ℕ, ◌+◌, ◌-◌, ◌<◌, ◌≤◌, true, false, not, List, [], ◌∷◌, refl, sym, ap, subst, ◌∙◌, inl, ⊎_elim, arith}
-use Rattle.std.specs.List.{list_any}
 use Rattle.std.proofs.lemmas.Bool.{cases_Bool, cases_order, false≢true, not-true}
 use Rattle.tel_base.specs.declared.literals.Lit.{Lit}
 use Rattle.tel_base.specs.Literals.{negate}
-use Rattle.tel_base.proofs.Members.{In-list_all, list_all-from_In, In-filter_from, any_found}
+use Rattle.tel_base.proofs.Members.{In-list_all, list_all-from_In, In-filter_from}
 use Rattle.clause_store.specs.Held.{is_clause, clause_at}
 use Rattle.clause_store.specs.declared.store.ClauseId.{ClauseId}
-use Rattle.clause_store.specs.Closure.{In, Clause, Lits, same_lit, others, refutes, Absorbed, TwoOpen, IsSettled}
+use Rattle.clause_store.specs.Closure.{In, Clause, same_lit, others, refutes, Absorbed}
 use Rattle.clause_store.proofs.Closures.{same_lit-self}
-use Rattle.clause_store.proofs.Free.{added_is_free}
+use Rattle.clause_store.proofs.Free.{settled_calm, added_is_free}
 use Rattle.clause_store.proofs.Levels.{In-clause_at, closure_closed}
 use Rattle.lit_trail.specs.declared.assignment.Entry.{Entry}
 use Rattle.lit_trail.specs.Entries.{View, back, Apart}
@@ -26,11 +25,6 @@ use Rattle.clause_learn.proofs.Backing.{level_stays}
 use Rattle.watch_propagate.specs.Propagation.{IsFalseClause}
 
 -- ---- a literal of the trail's level
-
--- nothing is false at a closed level
-settled_false : (X : Lits) (clause : Clause) → ((lit : Lit) → X lit ≡ true → X (negate lit) ≡ true → ⊥) → IsSettled X clause → refutes X clause ≡ true → ⊥
-settled_false X clause one settled all =
-    ⊎_elim (λ (some : list_any X clause ≡ true). let w = any_found X clause some in one w.0 w.2 (In-list_all (λ (l : Lit). X (negate l)) w.0 clause all w.1)) (λ (two : TwoOpen X clause). false≢true (sym two.first_open ∙ In-list_all (λ (l : Lit). X (negate l)) two.first clause all two.has_first)) settled
 
 -- a false literal none of whose level is left is false one level below
 false_lower : (entries : List Entry) (clause : Clause) (level lower : ℕ) (lit : Lit) → Apart entries → AreLevels level entries → level ≤ lower + 1 → has_more level entries (set_of clause) ≡ false → refutes (holds entries) clause ≡ true → In lit clause → holds (back lower entries) (negate lit) ≡ true
@@ -49,7 +43,7 @@ false_has_more clauses trail id apart levels sound above conflict =
     let level = closure_closed clauses (decided_lits (back lower trail.entries)) (holds (back lower trail.entries)) (sound.below lower (omega (arith, above))) in
     ⊎_elim (λ t. t) (λ (none : has_more trail.level trail.entries (set_of clause) ≡ false).
     let all : refutes (holds (back lower trail.entries)) clause ≡ true = list_all-from_In (λ (l : Lit). holds (back lower trail.entries) (negate l)) clause (λ lit i. false_lower trail.entries clause trail.level lower lit apart levels (omega (arith, above)) none conflict.1 i) in
-    absurd (settled_false (holds (back lower trail.entries)) clause level.one_value (level.settled clause (In-clause_at clauses id.place conflict.0)) all)) (cases_Bool (has_more trail.level trail.entries (set_of clause)))
+    absurd ((settled_calm clauses (holds (back lower trail.entries)) level).none_false clause (In-clause_at clauses id.place conflict.0) all)) (cases_Bool (has_more trail.level trail.entries (set_of clause)))
 
 -- ---- not absorbed
 

@@ -1,5 +1,5 @@
 -- A trail that goes back stays on its way.
-use Rattle.std.proofs.Common.{◌≡◌, ℕ, zero, suc, ◌<◌, ◌≤◌, true, List, refl, sym, ap, subst, ◌∙◌, ⊎_elim, arith}
+use Rattle.std.proofs.Common.{◌≡◌, ℕ, zero, suc, ◌-◌, ◌<◌, ◌≤◌, true, List, sym, ap, subst, ◌∙◌, ⊎_elim, arith}
 use Rattle.std.specs.List.{find}
 use Rattle.std.proofs.lemmas.Bool.{cases_order}
 use Rattle.tel_base.specs.declared.literals.Lit.{Lit}
@@ -33,15 +33,10 @@ decisions_back length entries level (suc m) decisions l are = (
   decisions_back length entries level m are.1 (omega (arith, l)) are.5,
 )
 
-some_below : (n : ℕ) → 0 < n → (m : ℕ) × (n ≡ suc m)
-some_below zero l = absurd (omega (arith, l))
-some_below (suc m) l = (m, refl)
-
 pub way_back : (old new : View) (level : ℕ) → level ≤ old.level → new.level ≡ level → new.entries ≡ back level old.entries → KeepsWay old new
 way_back old new level low at is length above way =
-    let below = some_below new.level above in
-    let m = below.0 in
-    let next = below.1 in
+    let m : ℕ = new.level - 1 in
+    let next : new.level ≡ suc m = omega (arith, above) in
     let top = way.level in
     let one : 1 ≤ level = omega (arith, above, at) in
     let lower = lower_decisions length old.entries way.last m way.decisions (omega (arith, next, top, at, low)) way.decided in

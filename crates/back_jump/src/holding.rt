@@ -2,11 +2,14 @@
 
 ghost use Rattle.std.specs.Prelude.{◌≡◌, ℕ, ◌<◌, ◌≤◌, [], ◌∷◌, ◌++◌, IsTrue, IfOk, OnOk, OnErr, length};
 ghost use Rattle.clause_store.specs.Held.{clauses_in, is_clause};
+ghost use Rattle.clause_store.specs.Closure.{refutes, Absorbed};
 ghost use Rattle.watch_propagate.specs.Propagation.{IsFalseClause};
 ghost use Rattle.lit_trail.specs.Entries.{back};
+ghost use Rattle.lit_trail.specs.Sound.{holds, IsClosedTrail};
 ghost use Rattle.trail_walk.specs.Ways.{IsReady};
-ghost use Rattle.back_jump.specs.Jumps.{IsSettledBelow, KeepsWay, Learns};
+ghost use Rattle.back_jump.specs.Jumps.{IsSettledBelow, KeepsWay, Learns, IsFalseOrUnit, second_highest};
 
+use crate::levels::second_level;
 use clause_learn::{Scratch, learn};
 use clause_store::{ClauseId, ClauseKind, Store};
 use lit_trail::Trail;
@@ -67,4 +70,35 @@ pub fn hold_learnt(
     let learnt = learn(scratch, store, trail, conflict);
     store.reserve(1, learnt.lits.len())?;
     Ok(hold(store, trail, ClauseKind::Learnt, learnt.lits, learnt.level))
+}
+
+/// Adds a clause that is false, and goes back to the second-highest level of its literals. There it has one literal without a value,
+/// or, where two are of the highest level, it is still false, and the search learns from it.
+///
+/// It takes time linear in its literals and in what is given up. On want of memory the clauses and the trail are as before.
+pub fn hold_false(
+    store: &mut Store,
+    trail: &mut Trail,
+    kind: ClauseKind,
+    lits: &[Lit],
+) -> Result<ClauseId, Memory>
+    requires ready { IsReady store.old trail.old }
+    requires clause { IsTrue (is_clause trail.old.vars lits.now) }
+    requires refuted { IsTrue (refutes (holds trail.old.entries) lits.now) }
+    ensures id { IfOk result (λ id. id.place ≡ length store.old.clauses) }
+    ensures added { OnOk result (store.new.clauses ≡ store.old.clauses ++ record { kind = kind; lits = lits.now } ∷ []) }
+    ensures level { OnOk result (trail.new.level ≡ second_highest trail.old.entries lits.now) }
+    ensures entries { OnOk result (trail.new.entries ≡ back trail.new.level trail.old.entries) }
+    ensures leaves { OnOk result (IsFalseOrUnit trail.new.entries lits.now) }
+    ensures free { IsClosedTrail (clauses_in store.old.clauses) trail.old.entries → Absorbed (clauses_in store.old.clauses) lits.now → ⊥ }
+    ensures err { OnErr result ((store.new.clauses ≡ store.old.clauses) × (trail.new ≡ trail.old)) }
+    ensures reserved { store.new.vars ≡ store.old.vars }
+    ensures vars { trail.new.vars ≡ trail.old.vars }
+    ensures ready { IsReady store.new trail.new }
+    ensures way { KeepsWay trail.old trail.new }
+{
+    let _count = trail.len();
+    store.reserve(1, lits.len())?;
+    let level = second_level(trail, lits);
+    Ok(hold(store, trail, kind, lits, level))
 }

@@ -2,5 +2,6 @@
 #![tactic(auto)]
 
 mod holding;
+mod levels;
 
-pub use holding::{hold, hold_learnt};
+pub use holding::{hold, hold_false, hold_learnt};
