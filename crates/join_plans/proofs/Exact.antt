@@ -11,7 +11,7 @@ use Rattle.join_plans.specs.declared.columns.Column.{Column}
 use Rattle.join_plans.specs.declared.columns.Column.TheVariants.{New, Old}
 use Rattle.tel_base.specs.Members.{In}
 use Rattle.tel_rule.specs.Atoms.{value_eq}
-use Rattle.join_plans.specs.Join.{at, place, Step, Row, Equal, HoldAll, put, then_found, and_then, put_row, answers, is_known, IsRight, learn, AreRight, learn_all, IsPlan, Fits, JoinIsExact}
+use Rattle.join_plans.specs.Join.{at, place, Step, Row, Equal, Compare, HoldAll, put, then_found, and_then, put_row, answers, is_known, IsRight, learn, AreRight, learn_all, IsPlan, Fits, JoinIsExact}
 
 -- ---- members
 
@@ -191,6 +191,15 @@ same_lists (x ∷ a) [] l h = absurd (omega (arith, l))
 same_lists (x ∷ a) (y ∷ b) l h =
     ap₂ (λ (z : Value) (zs : List Value). z ∷ zs) (h 0 (omega arith)) (same_lists a b (omega (arith, l)) (λ v k. h (suc v) (omega (arith, k))))
 
+-- what is found only where a test passes
+if_member : {X : Type 0} (t : Bool) (xs : List X) (b : X) → In b (if t then xs else []) → (t ≡ true) × In b xs
+if_member true xs b h = (refl, h)
+if_member false xs b h = absurd h
+
+to_if : {X : Type 0} (t : Bool) (xs : List X) (b : X) → t ≡ true → In b xs → In b (if t then xs else [])
+to_if true xs b is h = h
+to_if false xs b is h = absurd (true≢false (sym is))
+
 pub sound :
     (steps : List Step) (known : List Bool) (env b : List Value) → IsPlan known steps → length known ≡ length env → In b (answers steps env) → Fits known env b × HoldAll steps b
 sound [] known env b plan marks h =
@@ -207,6 +216,10 @@ sound (Equal c e ∷ more) known env b plan marks h =
     let later = sound more (learn known c) f.0 b plan.2 (length-learn known c ∙ marks ∙ sym (put-length c v.0 env f.0 f.1)) f.2 in
     let here = put-sound c v.0 known env f.0 b plan.1 marks f.1 later.0 in
     (here.0, (plan.0.reads b env (λ w r. here.0.same w (plan.0.there w r)) ∙ v.1 ∙ ap Some (sym here.1), later.1))
+sound (Compare c ∷ more) known env b plan marks h =
+    let found = if_member (c.holds env) (answers more env) b h in
+    let later = sound more known env b plan.1 marks found.1 in
+    (later.0, (plan.0.reads b env (λ w r. later.0.same w (plan.0.there w r)) ∙ found.0, later.1))
 
 pub full :
     (steps : List Step) (known : List Bool) (env b : List Value) → IsPlan known steps → Fits known env b → HoldAll steps b → In b (answers steps env)
@@ -220,6 +233,8 @@ full (Equal c e ∷ more) known env b plan fits hold =
     let valued : e.value env ≡ Some (at b (place c)) = sym (plan.0.reads b env (λ w r. fits.same w (plan.0.there w r))) ∙ hold.0 in
     to_found (λ x. then_found (answers more) (put c x env)) (e.value env) (at b (place c)) b valued
     (to_found (answers more) (put c (at b (place c)) env) goes.after b goes.is (full more (learn known c) goes.after b plan.2 goes.fits hold.1))
+full (Compare c ∷ more) known env b plan fits hold =
+    to_if (c.holds env) (answers more env) b (sym (plan.0.reads b env (λ w r. fits.same w (plan.0.there w r))) ∙ hold.0) (full more known env b plan.1 fits hold.1)
 
 pub exact : JoinIsExact
 exact steps known env plan marks b = (λ h. sound steps known env b plan marks h, λ p. full steps known env b plan p.0 p.1)

@@ -1,3 +1,4 @@
+pub mod Arranged
 pub mod Counting
 pub mod Exact
 pub mod Filling

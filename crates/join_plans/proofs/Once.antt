@@ -5,7 +5,7 @@ use Rattle.std.specs.List.{flat_map, filter}
 use Rattle.tel_term.specs.declared.terms.Value.{Value}
 use Rattle.join_plans.specs.declared.columns.Column.{Column}
 use Rattle.tel_base.specs.Members.{In}
-use Rattle.join_plans.specs.Join.{Step, Row, Equal, put, then_found, put_row, answers, learn, learn_all, IsPlan}
+use Rattle.join_plans.specs.Join.{Step, Row, Equal, Compare, put, then_found, put_row, answers, learn, learn_all, IsPlan}
 use Rattle.join_plans.specs.Once.{IsOnce, RowsOnce}
 use Rattle.join_plans.proofs.Exact.{has_cases, from_flat, found_cases, row-sound, put-length, row-length, length-learn, length-learn_all, at_columns, sound}
 
@@ -25,6 +25,10 @@ once_found : {X Y : Type 0} (f : X → List Y) (o : Option X) → ((x : X) → o
 once_found f None h = tt
 once_found f (Some x) h = h x refl
 
+once_if : {X : Type 0} (t : Bool) (xs : List X) → IsOnce xs → IsOnce (if t then xs else [])
+once_if true xs h = h
+once_if false xs h = tt
+
 -- a binding that a row gave has this row at the columns
 read_off :
     (cs : List Column) (more : List Step) (known : List Bool) (env row b : List Value) → IsPlan known (Row cs [] ∷ more) → length known ≡ length env → In b (then_found (answers more) (put_row cs row env)) → at_columns b cs ≡ row
@@ -43,6 +47,7 @@ once (Row cs rows ∷ more) known env plan marks one =
 once (Equal c e ∷ more) known env plan marks one =
     once_found (λ x. then_found (answers more) (put c x env)) (e.value env) (λ x got.
     once_found (answers more) (put c x env) (λ after is. once more (learn known c) after plan.2 (length-learn known c ∙ marks ∙ sym (put-length c x env after is)) one))
+once (Compare c ∷ more) known env plan marks one = once_if (c.holds env) (answers more env) (once more known env plan.1 marks one)
 
 pub indexed :
     (f : List Value → List (List Value)) (test : List Value → Bool) (rows : List (List Value)) → ((row : List Value) → test row ≡ false → f row ≡ []) → flat_map f (filter test rows) ≡ flat_map f rows

@@ -19,12 +19,19 @@ pub record Expression : Type 0 where
   pub reads : List ℕ
   pub value : List Value → Option Value
 
+-- a comparison, seen as the places that it reads and whether it holds
+pub record Comparison : Type 0 where
+  pub reads : List ℕ
+  pub holds : List Value → Bool
+
 -- a step of a plan
 pub data Step : Type 0 where
   -- the places of the columns are a row
   Row : List Column → List (List Value) → Step
   -- the place of the column has the value of an expression
   Equal : Column → Expression → Step
+  -- a comparison holds
+  Compare : Comparison → Step
 
 -- ---- what a plan means: a property of whole bindings
 
@@ -32,6 +39,7 @@ pub data Step : Type 0 where
 abbrev pub Holds : Step → List Value → Type 0
 Holds (Row columns rows) b = In (map (λ c. at b (place c)) columns) rows
 Holds (Equal column e) b = e.value b ≡ Some (at b (place column))
+Holds (Compare c) b = IsTrue (c.holds b)
 
 abbrev pub HoldAll : List Step → List Value → Type 0
 HoldAll [] b = Unit {0}
@@ -63,6 +71,7 @@ abbrev pub answers : List Step → List Value → List (List Value)
 answers [] env = env ∷ []
 answers (Row columns rows ∷ more) env = flat_map (λ row. then_found (answers more) (put_row columns row env)) rows
 answers (Equal column e ∷ more) env = then_found (λ x. then_found (answers more) (put column x env)) (e.value env)
+answers (Compare c ∷ more) env = if c.holds env then answers more env else []
 
 -- ---- plans that can be run
 
@@ -93,11 +102,17 @@ pub record IsReady (known : List Bool) (e : Expression) : Type 0 where
   pub there : (v : ℕ) → In v e.reads → IsTrue (is_known known v)
   pub reads : (a b : List Value) → ((v : ℕ) → In v e.reads → at a v ≡ at b v) → e.value a ≡ e.value b
 
+-- what a comparison says depends on the places that it reads alone, and they have values
+pub record IsClear (known : List Bool) (c : Comparison) : Type 0 where
+  pub there : (v : ℕ) → In v c.reads → IsTrue (is_known known v)
+  pub reads : (a b : List Value) → ((v : ℕ) → In v c.reads → at a v ≡ at b v) → c.holds a ≡ c.holds b
+
 -- a plan goes on from these marks: what it reads has values, no place gets two, and in the end each place has one
 abbrev pub IsPlan : List Bool → List Step → Type 0
 IsPlan known [] = (v : ℕ) → v < length known → IsTrue (is_known known v)
 IsPlan known (Row columns rows ∷ more) = AreRight known columns × IsPlan (learn_all known columns) more
 IsPlan known (Equal column e ∷ more) = IsReady known e × IsRight known column × IsPlan (learn known column) more
+IsPlan known (Compare c ∷ more) = IsClear known c × IsPlan known more
 
 -- b has the values of env at the known places
 pub record Fits (known : List Bool) (env b : List Value) : Type 0 where

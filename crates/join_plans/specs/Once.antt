@@ -3,7 +3,7 @@ use Rattle.std.specs.Prelude.{◌≡◌, Bool, false, List, [], ◌∷◌, lengt
 use Rattle.std.specs.List.{flat_map, filter}
 use Rattle.tel_term.specs.declared.terms.Value.{Value}
 use Rattle.tel_base.specs.Members.{In}
-use Rattle.join_plans.specs.Join.{Step, Row, Equal, answers, IsPlan}
+use Rattle.join_plans.specs.Join.{Step, Row, Equal, Compare, answers, IsPlan}
 
 -- each element stands once
 abbrev pub IsOnce : {X : Type 0} → List X → Type 0
@@ -15,6 +15,7 @@ abbrev pub RowsOnce : List Step → Type 0
 RowsOnce [] = Unit {0}
 RowsOnce (Row columns rows ∷ more) = IsOnce rows × RowsOnce more
 RowsOnce (Equal column e ∷ more) = RowsOnce more
+RowsOnce (Compare c ∷ more) = RowsOnce more
 
 -- each binding is found once
 abbrev pub JoinFindsOnce : Type 0

@@ -3,6 +3,7 @@
 ghost use Rattle.join_plans.specs.Atoms.{FilledOnce, PlansAreAtoms};
 ghost use Rattle.join_plans.specs.Count.{FewerMembers};
 ghost use Rattle.join_plans.specs.Faults.{RangesAreExact};
+ghost use Rattle.join_plans.specs.Goals.{AtomGoalsAreThePlan, FoundValuesPass, PlansMeetGoals};
 ghost use Rattle.join_plans.specs.Join.{JoinIsExact};
 ghost use Rattle.join_plans.specs.Once.{IndexIsExact, JoinFindsOnce};
 
@@ -25,4 +26,13 @@ pub fn met_faults()
 pub fn plans_of_atoms()
     ensures exact { PlansAreAtoms }
     ensures once { FilledOnce }
+{}
+
+/// A plan finds exactly the bindings that meet its goals, in whatever order they stand. The goals of
+/// table atoms are the plan of these atoms. A test that all values pass which the goals give is passed by
+/// all that is found.
+pub fn goals_of_plans()
+    ensures met { PlansMeetGoals }
+    ensures atoms { AtomGoalsAreThePlan }
+    ensures pass { FoundValuesPass }
 {}

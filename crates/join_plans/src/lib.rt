@@ -6,4 +6,4 @@ mod columns;
 mod laws;
 
 pub use columns::Column;
-pub use laws::{found_bindings, met_faults, plans_of_atoms};
+pub use laws::{found_bindings, goals_of_plans, met_faults, plans_of_atoms};
