@@ -1,0 +1,4 @@
+pub mod Exprs
+pub mod Atoms
+pub mod Bodies
+pub mod Live

@@ -1,0 +1,46 @@
+-- Rules whose variables are numbered and whose names and strings are terms of the program.
+use Rattle.std.specs.Prelude.{◌↔◌, ℕ, ◌<◌, List, [], ◌∷◌, ◌++◌, IsTrue}
+use Rattle.std.specs.List.{list_all, flat_map}
+use Rattle.tel_base.specs.Members.{In}
+use Rattle.tel_term.specs.declared.terms.Term.{Term}
+use Rattle.tel_term.specs.declared.terms.Value.{Value}
+use Rattle.tel_term.specs.declared.exprs.Expr.{Expr}
+use Rattle.tel_term.specs.declared.exprs.Expr.TheOpen.{Expr-F}
+use Rattle.tel_term.specs.declared.exprs.Expr.TheOpen as layers
+use Rattle.tel_term.specs.declared.exprs.Expr.TheFolds.{fold-Expr}
+use Rattle.tel_rule.specs.declared.statements.Signature.{Signature}
+use Rattle.tel_rule.specs.declared.statements.Statement.{Statement}
+use Rattle.tel_semantics.specs.Tables.{is_row}
+use Rattle.rule_binding.specs.Binding.{vars_of}
+use Rattle.live_instances.specs.Bindings.{is_value}
+use Rattle.join_plans.specs.Once.{IsOnce}
+use Rattle.rule_plans.specs.Goals.{Rows}
+
+-- the values of operands, each behind its operator
+abbrev pub operand_values : {Op : Type 0} → List (Op × List Value) → List Value
+operand_values {Op} operands = flat_map (λ (operand : Op × List Value). operand.1) operands
+
+abbrev pub layer_values : Expr-F (List Value) → List Value
+layer_values (layers.Value value) = value ∷ []
+layer_values (layers.Var v) = []
+layer_values (layers.Minus inner) = inner
+layer_values (layers.Sum first more) = first ++ operand_values more
+layer_values (layers.Product first more) = first ++ operand_values more
+
+-- the values that stand in an expression, from left to right
+abbrev pub values_in : Expr → List Value
+values_in expr = fold-Expr (List Value) layer_values expr
+
+-- the variables of an expression are among so many, and its values are terms of the program
+pub record IsWithin (symbols : List Term) (count : ℕ) (expr : Expr) : Type 0 where
+  pub vars : (v : ℕ) → In v (vars_of expr) → v < count
+  pub values : (value : Value) → In value (values_in expr) → IsTrue (is_value symbols value)
+
+abbrev pub AreWithin : List Term → ℕ → List Expr → Type 0
+AreWithin symbols count exprs = (expr : Expr) → In expr exprs → IsWithin symbols count expr
+
+-- these are the rows of each predicate, each once; all are of terms of the program
+pub record AreRowsOf (statements : List Statement) (symbols : List Term) (rows : Rows) : Type 0 where
+  pub same : (predicate : Signature) (row : List Value) → In row (rows predicate) ↔ IsTrue (is_row statements predicate row)
+  pub once : (predicate : Signature) → IsOnce (rows predicate)
+  pub terms : (predicate : Signature) (row : List Value) → In row (rows predicate) → IsTrue (list_all (is_value symbols) row)
