@@ -1,13 +1,14 @@
 -- A chain that is read turn by turn: what was read, and what is read from there on.
 use Rattle.std.proofs.Common.{◌≡◌, ℕ, suc, true, false, List, [], ◌∷◌, ◌++◌, Option, refl, sym, ap, ◌∙◌, append_assoc}
 use Rattle.std.proofs.lemmas.List.{append-nil}
-use Rattle.formula_syntax.specs.Points.{Word, Known, Point, begins}
-use Rattle.formula_syntax.specs.Steps.{Read, Got, Stuck, Reader, and_then, map_read, one, both, at_most, passes}
+use Rattle.formula_syntax.specs.Points.{Word, Known, Point, Read, Reader}
+use Rattle.grammar_laws.specs.Points.{begins}
+use Rattle.grammar_laws.specs.Steps.{Got, Stuck, and_then, map_read, one, both, at_most, passes}
 use Rattle.std.specs.Prelude.{◌≢◌}
 use Rattle.formula_syntax.specs.declared.reading.Stop.{Stop}
 use Rattle.formula_syntax.specs.declared.reading.Stop.TheVariants as stops
 use Rattle.formula_syntax.specs.Given.{why_of}
-use Rattle.formula_syntax.proofs.Readers.{at_most-more, at_most-end}
+use Rattle.grammar_laws.proofs.Readers.{at_most-more, at_most-end}
 
 -- what was read, and behind it what is still to be read
 abbrev pub joined : {A : Type 0} → List A → Read (List A) → Read (List A)

@@ -3,11 +3,12 @@ use Rattle.formula_syntax.specs.declared.marks.Mark.TheVariants as marks
 use Rattle.std.proofs.Common.{◌≡◌, ℕ, zero, suc, Bool, true, false, Option, Some, None, refl, sym, ap, ◌∙◌, inl, inr}
 use Rattle.std.proofs.lemmas.Bool.{cases_Bool}
 use Rattle.tel_term.specs.declared.exprs.Expr.{Expr}
-use Rattle.formula_syntax.specs.Points.{Word, Point, begins}
-use Rattle.formula_syntax.specs.Steps.{Read, Got, Reader, map_read, one, either, maybe, too_deep, passes}
+use Rattle.formula_syntax.specs.Points.{Word, Point, Read, Reader}
+use Rattle.grammar_laws.specs.Points.{begins}
+use Rattle.grammar_laws.specs.Steps.{Got, map_read, one, either, maybe, too_deep, passes}
 use Rattle.formula_syntax.specs.Grammar.{leaf, sign}
 use Rattle.formula_syntax.specs.Reading.{read_value, read_expr, read_negative, read_bracketed, opens_value}
-use Rattle.formula_syntax.proofs.Readers.{map-got, either-got}
+use Rattle.grammar_laws.proofs.Readers.{map-got, either-got}
 
 maybe_is : {A : Type 0} (test : Word → Bool) (read : Reader A) (from : Point) (b : Bool) → begins test from.words ≡ b → maybe test read from ≡ (elim b as (λ x. Read (Option A)) [ true ↦ map_read Some (read from) | false ↦ Got None from ])
 maybe_is test read from true is = rw is refl

@@ -11,17 +11,18 @@ use Rattle.tel_term.specs.declared.exprs.SumOp.TheVariants as sums
 use Rattle.tel_term.specs.declared.exprs.ProductOp.TheVariants as products
 use Rattle.formula_syntax.specs.declared.marks.Mark.{Mark}
 use Rattle.formula_syntax.specs.declared.marks.Mark.TheVariants as marks
-use Rattle.formula_syntax.specs.Points.{Word, Known, Point, at, begins}
+use Rattle.formula_syntax.specs.Points.{Word, Known, Point, Grammar, Reader}
+use Rattle.grammar_laws.specs.Points.{at, begins}
 use Rattle.formula_syntax.specs.Senses.{Sense, Sign, sense}
-use Rattle.formula_syntax.specs.Shapes.{Grammar, One, Then, Made, Either, Each}
-use Rattle.formula_syntax.specs.Steps.{Unexpected, Stuck, Reader, made, one, both, either, each, passes, or_also}
+use Rattle.grammar_laws.specs.Shapes.{One, Then, Made, Either, Each}
+use Rattle.grammar_laws.specs.Steps.{Unexpected, Stuck, made, one, both, either, each, passes, or_also}
 use Rattle.formula_syntax.specs.Grammar.{plain, by_itself, leaf, leaf_of, name, product_op, product_op_of, sum_op, sum_op_of, pair_op, arrow_op, prefix_op, const_op, product_of, sum_of, negative_of, between, new_var, Bracketed, ProductOf, SumOf, IsValue, IsExpr, sign, is_sign}
 use Rattle.formula_syntax.specs.Reading.{read_bracketed, read_product, read_sum, read_negative, opens_value, read_value, read_expr}
-use Rattle.formula_syntax.proofs.Readers.{Near, nothing, flat-reads, wider-starts}
-use Rattle.formula_syntax.proofs.Levels.{flat-raises}
-use Rattle.formula_syntax.proofs.Steady.{flat-steady}
-use Rattle.formula_syntax.proofs.Outcomes.{Family}
-use Rattle.formula_syntax.proofs.Nonterminals.{Known_by, Lifts, Apart, Passing, Optional_by, one-known, one-lifts, made-known, made-lifts, then-known, then-lifts, either-known, either-lifts, operand-known, operand-lifts, chain-known, chain-lifts, operands-optional}
+use Rattle.grammar_laws.proofs.Readers.{Near, nothing, flat-reads, wider-starts}
+use Rattle.grammar_laws.proofs.Levels.{flat-raises}
+use Rattle.grammar_laws.proofs.Steady.{flat-steady}
+use Rattle.grammar_laws.proofs.Outcomes.{Family}
+use Rattle.grammar_laws.proofs.Nonterminals.{Known_by, Lifts, Apart, Passing, Optional_by, one-known, one-lifts, made-known, made-lifts, then-known, then-lifts, either-known, either-lifts, operand-known, operand-lifts, chain-known, chain-lifts, operands-optional}
 
 -- ---- a word of each kind
 

@@ -7,19 +7,18 @@ use Rattle.tel_rule.specs.declared.formulas.Formula.{Formula}
 use Rattle.tel_rule.specs.declared.formulas.Formula.TheVariants as formulas
 use Rattle.tel_rule.specs.declared.formulas.ManyOp.TheVariants as manies
 use Rattle.formula_syntax.specs.declared.marks.Mark.TheVariants as marks
-use Rattle.formula_syntax.specs.Points.{Word, Known, at, begins}
+use Rattle.formula_syntax.specs.Points.{Word, Known, Grammar, Reader}
+use Rattle.grammar_laws.specs.Points.{at, begins}
 use Rattle.formula_syntax.specs.Senses.{Sense, Name, Sign, sense}
-use Rattle.formula_syntax.specs.Shapes.{Grammar, One, Then, Made, Either, AtMost, Maybe}
-use Rattle.formula_syntax.specs.Steps.{Unexpected, Stuck, Reader, made, one, both, either, at_most, maybe, passes, or_also}
+use Rattle.grammar_laws.specs.Shapes.{One, Then, Made, Either, AtMost, Maybe}
+use Rattle.grammar_laws.specs.Steps.{Unexpected, Stuck, made, one, both, either, at_most, maybe, passes, or_also}
 use Rattle.formula_syntax.specs.Grammar.{plain, by_itself, name, name_of, pair_op, pair_op_of, arrow_op, arrow_op_of, prefix_op, prefix_of, const_op, further_arguments, args_of, atom_of, constant_of, prefixed, paired, many_of, Bracketed, IsExpr, ArgsOf, IsSign, IsAtom, IsConstant, PairOf, AndOf, OrOf, FormulaOf, IsUnary, IsFormula, sign, is_sign}
 use Rattle.formula_syntax.specs.Reading.{read_bracketed, read_expr, read_args, read_sign, read_atom, read_constant, read_prefixed, read_pair, read_and, read_or, read_formula_of, starts_atom, starts_flat, opens_unary, read_flat, read_unary, read_formula}
-use Rattle.formula_syntax.proofs.Readers.{nothing, flat-reads, wider-starts}
-use Rattle.formula_syntax.proofs.Levels.{flat-raises}
-use Rattle.formula_syntax.proofs.Steady.{Takes, flat-steady, made-takes}
-use Rattle.formula_syntax.proofs.Outcomes.{Family}
-use Rattle.formula_syntax.proofs.Nonterminals.{Known_by, Lifts, Apart, Optional_by, one-known, one-lifts, made-known, made-lifts, then-known, then-lifts, then-known_on, then-known_from, either-known, either-lifts, operand-known, operand-lifts, chain-known, chain-lifts, maybe-optional, maybe-lifts, word-optional, pair-known, pair-lifts}
-use Rattle.formula_syntax.proofs.Readers.{wider-more}
-use Rattle.formula_syntax.proofs.Nonterminals.{at_most-optional, at_most-lift, operand-takes}
+use Rattle.grammar_laws.proofs.Readers.{nothing, flat-reads, wider-starts, wider-more}
+use Rattle.grammar_laws.proofs.Levels.{flat-raises}
+use Rattle.grammar_laws.proofs.Steady.{Takes, flat-steady, made-takes}
+use Rattle.grammar_laws.proofs.Outcomes.{Family}
+use Rattle.grammar_laws.proofs.Nonterminals.{Known_by, Lifts, Apart, Optional_by, one-known, one-lifts, made-known, made-lifts, then-known, then-lifts, then-known_on, then-known_from, either-known, either-lifts, operand-known, operand-lifts, chain-known, chain-lifts, maybe-optional, maybe-lifts, word-optional, pair-known, pair-lifts, at_most-optional, at_most-lift, operand-takes}
 use Rattle.formula_syntax.proofs.Families.{passing-pair_op, passing-arrow_op, passing-prefix_op, passing-name, passing-const_op, starts_value, more_sum, expr-known, expr-lifts, bracketed-known, bracketed-lifts, not-first, not-second, ops-alone, bracketed-alone, bracketed-absent, or-left, apart-close, apart-comma, passing-sign}
 
 -- ---- signs

@@ -5,14 +5,15 @@ use Rattle.std.proofs.lemmas.Bool.{false≢true}
 use Rattle.tel_rule.specs.declared.formulas.Formula.{Formula}
 use Rattle.tel_rule.specs.declared.formulas.Formula.TheVariants as formulas
 use Rattle.tel_rule.specs.declared.formulas.ManyOp.{ManyOp}
-use Rattle.formula_syntax.specs.Points.{Word, Known, Point, at, begins}
-use Rattle.formula_syntax.specs.Steps.{Read, Got, Stuck, Reader, and_then, map_read, made, one, both, either, at_most, each, too_deep, passes}
+use Rattle.formula_syntax.specs.Points.{Word, Known, Point, Read, Reader}
+use Rattle.grammar_laws.specs.Points.{at, begins}
+use Rattle.grammar_laws.specs.Steps.{Got, Stuck, and_then, map_read, made, one, both, either, at_most, each, too_deep, passes}
 use Rattle.formula_syntax.specs.Grammar.{behind_all, many_of, prefix_op}
 use Rattle.formula_syntax.specs.Reading.{starts_flat, opens_unary, read_flat, read_unary, read_formula, read_prefixed, read_bracketed}
 use Rattle.formula_syntax.specs.declared.reading.Stop.{Stop}
 use Rattle.formula_syntax.specs.declared.reading.Stop.TheVariants as stops
 use Rattle.formula_syntax.specs.Given.{why_of}
-use Rattle.formula_syntax.proofs.Readers.{map-got, map-stuck, then-got, at_most-more, at_most-end, either-got}
+use Rattle.grammar_laws.proofs.Readers.{map-got, map-stuck, then-got, at_most-more, at_most-end, either-got}
 use Rattle.formula_syntax.proofs.Gathers.{gathered}
 
 -- a chain that begins has a thing

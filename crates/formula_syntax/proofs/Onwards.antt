@@ -2,7 +2,8 @@
 use Rattle.std.proofs.Common.{◌≡◌, ℕ, true, List, [], ◌∷◌, ◌++◌, refl, sym, ap, subst, ◌∙◌, append_assoc, arith}
 use Rattle.std.proofs.lemmas.List.{append-nil}
 use Rattle.tel_term.specs.declared.terms.Term.{Term}
-use Rattle.formula_syntax.specs.Points.{Word, Known, Point, at}
+use Rattle.formula_syntax.specs.Points.{Word, Known, Point}
+use Rattle.grammar_laws.specs.Points.{at}
 use Rattle.formula_syntax.specs.Given.{Onward, skipped, behind_first}
 
 pub onward_none : (p : Point) → Onward p p

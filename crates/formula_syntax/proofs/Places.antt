@@ -8,8 +8,9 @@ use Rattle.formula_syntax.specs.declared.names.Names.{Names}
 use Rattle.formula_syntax.specs.declared.fault.FormulaFault.{FormulaFault}
 use Rattle.formula_syntax.specs.declared.reading.Stop.{Stop}
 use Rattle.formula_syntax.specs.declared.reading.Stop.TheVariants as stops
-use Rattle.formula_syntax.specs.Points.{Word, Known, Point, at, word_of, words_of}
-use Rattle.formula_syntax.specs.Steps.{Why, Unexpected, Deep, Got, Stuck, Reader}
+use Rattle.formula_syntax.specs.Points.{Word, Known, Point, word_of, words_of, Reader}
+use Rattle.grammar_laws.specs.Points.{at}
+use Rattle.grammar_laws.specs.Steps.{Why, Unexpected, Deep, Got, Stuck}
 use Rattle.formula_syntax.specs.Given.{Onward, known_of, point_at, why_of, fault_of, IfSyntax, IfTooDeep, ReadUpTo, StopsAt}
 
 -- the place of the next token

@@ -5,17 +5,18 @@ use Rattle.tel_lex.specs.declared.token.Token.{Token}
 use Rattle.formula_syntax.specs.declared.names.Names.{Names}
 use Rattle.formula_syntax.specs.declared.fault.FormulaFault.{FormulaFault}
 use Rattle.formula_syntax.specs.declared.fault.FormulaFault.TheVariants as faults
-use Rattle.formula_syntax.specs.Points.{Word, Known, Point, at, words_of}
-use Rattle.formula_syntax.specs.Shapes.{Grammar}
-use Rattle.formula_syntax.specs.Steps.{Unexpected, Deep, Read, Got, Reader}
+use Rattle.formula_syntax.specs.Points.{Word, Known, Point, words_of, Grammar, Read, Reader}
+use Rattle.grammar_laws.specs.Points.{at}
+use Rattle.grammar_laws.specs.Steps.{Unexpected, Deep, Got}
 use Rattle.formula_syntax.specs.Grammar.{IsExpr, IsFormula}
 use Rattle.formula_syntax.specs.Reading.{read_expr, read_formula}
 use Rattle.formula_syntax.specs.Given.{point_at, IfSyntax, IfTooDeep, ReadUpTo, StopsAt}
-use Rattle.formula_syntax.specs.Refusals.{OneOutcome}
+use Rattle.grammar_laws.specs.Refusals.{OneOutcome}
 use Rattle.formula_syntax.specs.Reached.{StandsUpTo, SyntaxAt, TooDeepAt, OneAnswer, OneExpr, OneFormula}
-use Rattle.formula_syntax.proofs.Exclusive.{outcome-same, one_outcome, one_answer}
-use Rattle.formula_syntax.proofs.Steady.{Steady}
-use Rattle.formula_syntax.proofs.Outcomes.{Family, stands, syntax, too_deep, one_thing}
+use Rattle.grammar_laws.proofs.Exclusive.{outcome-same, one_outcome}
+use Rattle.formula_syntax.proofs.Answered.{one_answer}
+use Rattle.grammar_laws.proofs.Steady.{Steady}
+use Rattle.grammar_laws.proofs.Outcomes.{Family, stands, syntax, too_deep, one_thing}
 use Rattle.formula_syntax.proofs.Families.{more_sum, expr-known, expr-family}
 use Rattle.formula_syntax.proofs.FormulaFamilies.{more_formula, formula-known, formula-family}
 

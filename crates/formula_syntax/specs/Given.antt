@@ -13,12 +13,13 @@ use Rattle.tel_term.specs.declared.exprs.Expr.{Expr}
 use Rattle.formula_syntax.specs.declared.atoms.Signed.{Signed}
 use Rattle.formula_syntax.specs.declared.reading.Stop.{Stop}
 use Rattle.formula_syntax.specs.declared.reading.Stop.TheVariants as stops
-use Rattle.formula_syntax.specs.Points.{Word, Known, Point, at, words_of, begins}
+use Rattle.formula_syntax.specs.Points.{Word, Known, Point, words_of, Read, Reader}
+use Rattle.grammar_laws.specs.Points.{at, begins}
 use Rattle.tel_lex.specs.declared.token.Token.{Token}
 use Rattle.formula_syntax.specs.declared.fault.FormulaFault.{FormulaFault}
 use Rattle.formula_syntax.specs.declared.fault.FormulaFault.TheVariants as faults
 use Rattle.formula_syntax.specs.Senses.{Sense, Name, Variable, Blank, Number, Str, Sign, Other, inner_of, sense}
-use Rattle.formula_syntax.specs.Steps.{Why, Unexpected, Deep, Read, Got, Stuck, Reader, made, one, both, at_most, passes}
+use Rattle.grammar_laws.specs.Steps.{Why, Unexpected, Deep, Got, Stuck, made, one, both, at_most, passes}
 use Rattle.formula_syntax.specs.Grammar.{SignRead, args_of, name_of, sign, is_sign}
 
 -- what a token says, without where its bytes lie

@@ -25,9 +25,9 @@ use Rattle.tel_rule.specs.declared.formulas.Formula.{Formula}
 use Rattle.tel_rule.specs.declared.formulas.Formula.TheVariants as formulas
 use Rattle.formula_syntax.specs.declared.marks.Mark.{Mark}
 use Rattle.formula_syntax.specs.declared.marks.Mark.TheVariants as marks
-use Rattle.formula_syntax.specs.Points.{Word, Known}
+use Rattle.formula_syntax.specs.Points.{Word, Known, Grammar}
 use Rattle.formula_syntax.specs.Senses.{Sense, Name, Variable, Blank, Number, Str, Sign, sense, number_of, string_of}
-use Rattle.formula_syntax.specs.Shapes.{Grammar, One, Then, Made, Either, Each, AtMost, Maybe}
+use Rattle.grammar_laws.specs.Shapes.{One, Then, Made, Either, Each, AtMost, Maybe}
 
 -- ---- words
 
@@ -150,10 +150,7 @@ abbrev pub sum_of : Expr × List (SumOp × Expr) → Expr
 sum_of (first, []) = first
 sum_of (first, next ∷ more) = exprs.Sum first (next ∷ more)
 
--- what stands behind a word, and between two words
-abbrev pub behind : {A B : Type 0} → A × B → B
-behind pair = pair.1
-
+-- what stands between two words
 abbrev pub between : {A B C : Type 0} → A × (B × C) → B
 between three = three.1.0
 

@@ -3,8 +3,5 @@ pub mod Grammar
 pub mod Points
 pub mod Reached
 pub mod Reading
-pub mod Refusals
 pub mod Senses
-pub mod Shapes
-pub mod Steps
 pub mod Variables

@@ -6,9 +6,9 @@ use Rattle.tel_rule.specs.declared.formulas.Formula.{Formula}
 use Rattle.formula_syntax.specs.declared.fault.FormulaFault.{FormulaFault}
 use Rattle.formula_syntax.specs.declared.fault.FormulaFault.TheVariants as faults
 use Rattle.formula_syntax.specs.declared.names.Names.{Names}
-use Rattle.formula_syntax.specs.Points.{Word, Known, at, words_of}
-use Rattle.formula_syntax.specs.Shapes.{Grammar}
-use Rattle.formula_syntax.specs.Refusals.{Stands, IsSyntax, IsTooDeep}
+use Rattle.formula_syntax.specs.Points.{Word, Known, words_of, Grammar}
+use Rattle.grammar_laws.specs.Points.{at}
+use Rattle.grammar_laws.specs.Refusals.{Stands, IsSyntax, IsTooDeep}
 use Rattle.formula_syntax.specs.Grammar.{IsExpr, IsFormula}
 use Rattle.formula_syntax.specs.Given.{point_at}
 

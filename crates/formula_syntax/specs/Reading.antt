@@ -7,8 +7,8 @@ use Rattle.tel_rule.specs.declared.formulas.Atom.{Atom}
 use Rattle.tel_rule.specs.declared.formulas.Formula.{Formula}
 use Rattle.tel_rule.specs.declared.formulas.Formula.TheVariants as formulas
 use Rattle.tel_rule.specs.declared.formulas.ManyOp.TheVariants as manies
-use Rattle.formula_syntax.specs.Points.{Word}
-use Rattle.formula_syntax.specs.Steps.{Reader, made, one, both, either, at_most, each, maybe, too_deep, passes, or_also}
+use Rattle.formula_syntax.specs.Points.{Word, Reader}
+use Rattle.grammar_laws.specs.Steps.{made, one, both, either, at_most, each, maybe, too_deep, passes, or_also}
 use Rattle.formula_syntax.specs.Grammar.{leaf, name, product_op, sum_op, pair_op, arrow_op, prefix_op, const_op, product_of, sum_of, negative_of, between, further_arguments, args_of, SignRead, atom_of, constant_of, prefixed, paired, many_of, sign}
 
 -- ---- expressions

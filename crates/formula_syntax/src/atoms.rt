@@ -1,5 +1,5 @@
 ghost use Rattle.std.specs.Prelude.{◌≡◌, ◌++◌, Ok, Err};
-ghost use Rattle.formula_syntax.specs.Steps.{Got, made, one, both, maybe, at_most, passes};
+ghost use Rattle.grammar_laws.specs.Steps.{Got, made, one, both, maybe, at_most, passes};
 ghost use Rattle.formula_syntax.specs.Grammar as grammar;
 ghost use Rattle.formula_syntax.specs.Reading as readers;
 ghost use Rattle.formula_syntax.specs.Given.{Reads, ReadsSign, Onward, found, sign_of, args_read};

@@ -1,5 +1,6 @@
 ghost use Rattle.std.specs.Prelude.{◌≡◌, ℕ, ◌+◌, ◌-◌, ◌^◌, ◌<◌, ◌≤◌, length, IfOk, IfErr};
-ghost use Rattle.formula_syntax.specs.Steps.{Unexpected, Deep, Reader};
+ghost use Rattle.grammar_laws.specs.Steps.{Unexpected, Deep};
+ghost use Rattle.formula_syntax.specs.Points.{Reader};
 ghost use Rattle.formula_syntax.specs.Reading.{read_expr, read_formula};
 ghost use Rattle.formula_syntax.specs.Grammar.{IsExpr, IsFormula};
 ghost use Rattle.formula_syntax.specs.Reached.{StandsUpTo, SyntaxAt, TooDeepAt};

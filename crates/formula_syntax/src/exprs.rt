@@ -1,6 +1,6 @@
 ghost use Rattle.std.specs.Prelude.{◌≡◌, IfOk, ◌∷◌};
 ghost use Rattle.tel_term.specs.declared.exprs.Expr.{Expr};
-ghost use Rattle.formula_syntax.specs.Steps.{Stuck, one, both, either, each, too_deep, passes};
+ghost use Rattle.grammar_laws.specs.Steps.{Stuck, one, both, either, each, too_deep, passes};
 ghost use Rattle.formula_syntax.specs.Grammar as grammar;
 ghost use Rattle.formula_syntax.specs.Reading as readers;
 ghost use Rattle.formula_syntax.specs.Given.{Reads, Onward, why_of};

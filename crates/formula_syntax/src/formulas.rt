@@ -1,7 +1,7 @@
 ghost use Rattle.std.specs.Prelude.{◌≡◌, ◌++◌, IfOk};
 ghost use Rattle.tel_rule.specs.declared.formulas.Formula.{Formula};
 ghost use Rattle.tel_rule.specs.declared.formulas.ManyOp.TheVariants as manies;
-ghost use Rattle.formula_syntax.specs.Steps.{Stuck, made, one, both, either, each, too_deep, passes};
+ghost use Rattle.grammar_laws.specs.Steps.{Stuck, made, one, both, either, each, too_deep, passes};
 ghost use Rattle.formula_syntax.specs.Grammar as grammar;
 ghost use Rattle.formula_syntax.specs.Reading as readers;
 ghost use Rattle.formula_syntax.specs.Given.{Reads, Onward, why_of};

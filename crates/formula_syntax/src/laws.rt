@@ -1,7 +1,7 @@
 //! Laws of the grammar: functions that do nothing, whose contracts are proved facts.
 
 ghost use Rattle.formula_syntax.specs.Grammar.{IsExpr, IsFormula};
-ghost use Rattle.formula_syntax.specs.Refusals.{OneOutcome};
+ghost use Rattle.grammar_laws.specs.Refusals.{OneOutcome};
 ghost use Rattle.formula_syntax.specs.Reached.{OneAnswer, OneExpr, OneFormula};
 
 /// Words are at most one expression and at most one formula, with the same names behind them.

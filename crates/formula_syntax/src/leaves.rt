@@ -1,6 +1,6 @@
 ghost use Rattle.std.specs.Prelude.{◌≡◌, ◌<◌, length};
-ghost use Rattle.formula_syntax.specs.Points.{at};
-ghost use Rattle.formula_syntax.specs.Steps.{one, maybe, passes};
+ghost use Rattle.grammar_laws.specs.Points.{at};
+ghost use Rattle.grammar_laws.specs.Steps.{one, maybe, passes};
 ghost use Rattle.formula_syntax.specs.Grammar as grammar;
 ghost use Rattle.formula_syntax.specs.Given.{Reads, Onward, Makes};
 

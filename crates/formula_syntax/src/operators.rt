@@ -1,7 +1,7 @@
 ghost use Rattle.std.specs.Prelude.{◌≡◌};
 ghost use Rattle.std.specs.Option.{option_map, option_and_then};
 ghost use Rattle.std.specs.Str.{bytes_eq};
-ghost use Rattle.formula_syntax.specs.Points.{begins};
+ghost use Rattle.grammar_laws.specs.Points.{begins};
 ghost use Rattle.formula_syntax.specs.Grammar as grammar;
 ghost use Rattle.formula_syntax.specs.Reading as readers;
 ghost use Rattle.formula_syntax.specs.Given.{said, Takes, Onward, view_text};

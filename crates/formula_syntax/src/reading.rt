@@ -1,8 +1,9 @@
 ghost use Rattle.std.specs.Prelude.{◌≡◌, ◌+◌, ◌-◌, ◌^◌, ◌<◌, ◌≤◌, length, true, is_some, Some, None};
 ghost use Rattle.std.specs.Option.{option_map, option_and_then};
-ghost use Rattle.formula_syntax.specs.Points.{at, words_of, begins};
+ghost use Rattle.grammar_laws.specs.Points.{at, begins};
+ghost use Rattle.formula_syntax.specs.Points.{words_of};
 ghost use Rattle.formula_syntax.specs.Reading as readers;
-ghost use Rattle.formula_syntax.specs.Steps.{one, passes};
+ghost use Rattle.grammar_laws.specs.Steps.{one, passes};
 ghost use Rattle.formula_syntax.specs.Senses as spec;
 ghost use Rattle.formula_syntax.specs.Grammar as grammar;
 ghost use Rattle.formula_syntax.specs.Given.{said, known_of, point_at, HasRoom, HasRoomForOne, seen, seen_is, starts_flat, skipped, Takes, Reads, found, Onward};
@@ -76,7 +77,8 @@ pub struct Reading<'t, 'b> {
 }
 
 impl<'t, 'b> Model for Reading<'t, 'b> {
-    ghost use Rattle.formula_syntax.specs.Points.{Point, at, words_of};
+    ghost use Rattle.formula_syntax.specs.Points.{Point, words_of};
+    ghost use Rattle.grammar_laws.specs.Points.{at};
     ghost use Rattle.formula_syntax.specs.Given.{known_of, HasRoom};
 
     ghost Value = { Point };

@@ -8,16 +8,17 @@ use Rattle.tel_rule.specs.declared.statements.LitItem.TheVariants as items
 use Rattle.tel_rule.specs.declared.statements.Relation.TheVariants as relations
 use Rattle.tel_term.specs.declared.exprs.Expr.{Expr}
 use Rattle.formula_syntax.specs.declared.marks.Mark.TheVariants as marks
-use Rattle.formula_syntax.specs.Points.{Word, Known, Point, at, begins}
+use Rattle.formula_syntax.specs.Points.{Word, Known, Point, Grammar, Read, Reader}
+use Rattle.grammar_laws.specs.Points.{at, begins}
 use Rattle.formula_syntax.specs.Senses.{Sense, Name, Variable, Blank, Number, Str, Sign, sense}
-use Rattle.formula_syntax.specs.Shapes.{Grammar, One, Then, Each, Maybe}
-use Rattle.formula_syntax.specs.Steps.{Unexpected, Deep, Read, Got, Stuck, Reader, rest_of, and_then, give, map_read, made, one, both, each, maybe, passes, or_also}
+use Rattle.grammar_laws.specs.Shapes.{One, Then, Each, Maybe}
+use Rattle.grammar_laws.specs.Steps.{Unexpected, Deep, Got, Stuck, rest_of, and_then, give, map_read, made, one, both, each, maybe, passes, or_also}
 use Rattle.formula_syntax.specs.Grammar.{plain, by_itself, leaf, leaf_of, name, name_of, product_op, product_op_of, sum_op, sum_op_of, negative_of, product_of, sum_of, SignRead, IsSign, atom_of, IsValue, IsExpr, IsAtom, ProductOf, ArgsOf, sign, is_sign}
 use Rattle.formula_syntax.specs.Reading.{read_value, read_product, read_negative, read_expr, read_sign, read_args, read_atom, starts_atom}
-use Rattle.formula_syntax.proofs.Readers.{head, one-starts_in, Near, Reads, begins-head, begins-front, rest-map, either-got, goes-inl, goes-inr, framed-inl, framed-inr, nothing, ends-first, ends-second, either-starts, not-ends}
-use Rattle.formula_syntax.proofs.Levels.{Deeper, Raised}
-use Rattle.formula_syntax.proofs.Nonterminals.{Known_by, Lifts, Apart, Passing, word-optional, operand-known, operand-lifts, operands-optional, made-known, made-lifts, then-known, then-lifts}
-use Rattle.part_syntax.proofs.ReadBy.{Read_by}
+use Rattle.grammar_laws.proofs.Readers.{head, one-starts_in, Near, Reads, begins-head, begins-front, rest-map, either-got, goes-inl, goes-inr, framed-inl, framed-inr, nothing, ends-first, ends-second, either-starts, not-ends}
+use Rattle.grammar_laws.proofs.Levels.{Deeper, Raised}
+use Rattle.grammar_laws.proofs.Nonterminals.{Known_by, Lifts, Apart, Passing, word-optional, operand-known, operand-lifts, operands-optional, made-known, made-lifts, then-known, then-lifts}
+use Rattle.grammar_laws.proofs.ReadBy.{Read_by}
 use Rattle.formula_syntax.proofs.Families.{minus-leaf_of, starts_value, more_sum, value-known, expr-known, expr-lifts, passing-product_op, sums-optional, sign_word, not-sum, passing-sign}
 use Rattle.formula_syntax.proofs.FormulaFamilies.{prime-name_of, minus-name_of, more_atom, atom-known, atom-lifts, primed-known, args-optional}
 use Rattle.part_syntax.specs.Grammar.{relation, relation_of, compare_of, IsAtomItem, IsComparison, IsPlain}

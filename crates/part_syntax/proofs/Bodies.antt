@@ -4,14 +4,15 @@ use Rattle.std.proofs.Common.{◌≡◌, ℕ, suc, Bool, true, false, List, [], 
 use Rattle.std.specs.Prelude.{is_some}
 use Rattle.tel_term.specs.declared.exprs.Expr.{Expr}
 use Rattle.tel_rule.specs.declared.statements.Literal.{Literal}
-use Rattle.formula_syntax.specs.Points.{Word, Known, Point, at, begins}
-use Rattle.formula_syntax.specs.Steps.{Unexpected, Read, Got, Stuck, and_then, map_read, made, one_made, one, both, either, maybe, passes, or_also}
+use Rattle.formula_syntax.specs.Points.{Word, Known, Point, Read}
+use Rattle.grammar_laws.specs.Points.{at, begins}
+use Rattle.grammar_laws.specs.Steps.{Unexpected, Got, Stuck, and_then, map_read, made, one_made, one, both, either, maybe, passes, or_also}
 use Rattle.formula_syntax.specs.Grammar.{leaf, name, between, sign}
 use Rattle.formula_syntax.specs.Reading.{read_value, read_expr, read_negative, read_bracketed, read_sum, read_product, opens_value, starts_atom}
-use Rattle.formula_syntax.proofs.Readers.{either-got}
+use Rattle.grammar_laws.proofs.Readers.{either-got}
 use Rattle.part_syntax.specs.Grammar.{literal, body_of}
 use Rattle.part_syntax.specs.Reading.{compares, read_tel, read_plain, read_negated, read_literal, read_body, read_tail, starts_literal, starts_plain, starts_value}
-use Rattle.part_syntax.specs.Descriptions.{first_of}
+use Rattle.grammar_laws.specs.Productions.{first_of}
 use Rattle.part_syntax.specs.Given.{body_or_none}
 
 none_of : {A : Type 0} (o : Option A) → is_some o ≡ false → o ≡ None

@@ -10,9 +10,10 @@ use Rattle.tel_lex.proofs.Going.{some_lexed}
 use Rattle.tel_rule.specs.declared.parts.Part.TheVariants as parts
 use Rattle.tel_rule.specs.declared.statements.Statement.{Statement}
 use Rattle.tel_rule.specs.declared.statements.Program.{Program}
-use Rattle.formula_syntax.specs.Points.{Word, Known, at}
-use Rattle.formula_syntax.specs.Refusals.{Begins}
-use Rattle.formula_syntax.specs.Steps.{Why, Unexpected, Deep, Read, Got, Stuck}
+use Rattle.formula_syntax.specs.Points.{Word, Known, Read}
+use Rattle.grammar_laws.specs.Points.{at}
+use Rattle.grammar_laws.specs.Refusals.{Begins}
+use Rattle.grammar_laws.specs.Steps.{Why, Unexpected, Deep, Got, Stuck}
 use Rattle.part_syntax.specs.declared.fault.ReadFault.{ReadFault}
 use Rattle.part_syntax.specs.declared.fault.ReadFault.TheVariants as faults
 use Rattle.part_syntax.specs.Grammar.{Stated, IsText, statements_in}

@@ -1,14 +1,13 @@
 -- Tuples and the bracket behind them, read in two orders.
 use Rattle.formula_syntax.specs.declared.marks.Mark.TheVariants as marks
 use Rattle.std.proofs.Common.{◌≡◌, ℕ, List, refl, ap, ◌∙◌}
-use Rattle.formula_syntax.specs.Points.{Point}
-use Rattle.formula_syntax.specs.Steps.{Read, Got, Stuck, Reader, and_then, map_read, made, both}
-use Rattle.formula_syntax.specs.Steps.{one, each, passes}
+use Rattle.formula_syntax.specs.Points.{Point, Read, Reader}
+use Rattle.grammar_laws.specs.Steps.{Got, Stuck, and_then, map_read, made, both, one, each, passes}
 use Rattle.formula_syntax.specs.Grammar.{sign}
 use Rattle.tel_rule.specs.declared.statements.Arg.{Arg}
 use Rattle.part_syntax.specs.Grammar.{chain_of, tuples_of}
 use Rattle.part_syntax.specs.Reading.{read_tuple, read_tuples}
-use Rattle.part_syntax.specs.Descriptions.{first_of}
+use Rattle.grammar_laws.specs.Productions.{first_of}
 
 module _ {A B C : Type 0} (end : Reader C) where
   abbrev pub row_of : B × (List (A × B) × C) → List B

@@ -2,8 +2,9 @@
 use Rattle.std.proofs.Common.{◌≡◌, ℕ, zero, suc, Bool, true, false, List, ◌∷◌, length, refl, sym, ap, ◌∙◌}
 use Rattle.std.specs.Prelude.{◌≢◌}
 use Rattle.tel_base.specs.declared.places.Place.{Place}
-use Rattle.formula_syntax.specs.Points.{Point, at, begins}
-use Rattle.formula_syntax.specs.Steps.{Read, Got, Stuck, and_then, map_read, at_most, each}
+use Rattle.formula_syntax.specs.Points.{Point, Read}
+use Rattle.grammar_laws.specs.Points.{at, begins}
+use Rattle.grammar_laws.specs.Steps.{Got, Stuck, and_then, map_read, at_most, each}
 use Rattle.formula_syntax.specs.declared.reading.Stop.{Stop}
 use Rattle.formula_syntax.specs.declared.reading.Stop.TheVariants as stops
 use Rattle.formula_syntax.specs.Given.{why_of}

@@ -2,7 +2,6 @@ pub mod AtomOrComparison
 pub mod Bodies
 pub mod Codes
 pub mod Decided
-pub mod Described
 pub mod Enclosed
 pub mod Fresh
 pub mod Lengths
@@ -11,7 +10,6 @@ pub mod OneFault
 pub mod OneProgram
 pub mod Plain
 pub mod Ranks
-pub mod ReadBy
 pub mod ReadPrograms
 pub mod Rows
 pub mod StatementReads

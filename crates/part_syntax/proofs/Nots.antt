@@ -3,8 +3,8 @@ use Rattle.formula_syntax.specs.declared.marks.Mark.TheVariants as marks
 use Rattle.std.proofs.Common.{◌≡◌, ℕ, ◌+◌, Option, refl, ap, ◌∙◌}
 use Rattle.tel_rule.specs.declared.statements.LitItem.{LitItem}
 use Rattle.tel_rule.specs.declared.statements.Literal.{Literal}
-use Rattle.formula_syntax.specs.Points.{Point}
-use Rattle.formula_syntax.specs.Steps.{Read, Got, Stuck, Reader, and_then, map_read, made, one, both, maybe, passes}
+use Rattle.formula_syntax.specs.Points.{Point, Read, Reader}
+use Rattle.grammar_laws.specs.Steps.{Got, Stuck, and_then, map_read, made, one, both, maybe, passes}
 use Rattle.formula_syntax.specs.Grammar.{count, sign}
 use Rattle.part_syntax.specs.Grammar.{literal, negated_of}
 use Rattle.part_syntax.specs.Reading.{read_negated, read_item_of}

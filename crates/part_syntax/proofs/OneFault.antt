@@ -5,8 +5,8 @@ use Rattle.tel_lex.specs.declared.fault.LexFault.{LexFault}
 use Rattle.tel_lex.specs.declared.fault.LexFault.TheVariants as lexing
 use Rattle.tel_lex.proofs.Once.{one_reading}
 use Rattle.formula_syntax.specs.Points.{Word, Known}
-use Rattle.formula_syntax.specs.Refusals.{Begins, AtSomeLevel}
-use Rattle.formula_syntax.proofs.Fronts.{SameSplit, compared, past-begins, all-begins, some-level}
+use Rattle.grammar_laws.specs.Refusals.{Begins, AtSomeLevel}
+use Rattle.grammar_laws.proofs.Fronts.{SameSplit, compared, past-begins, all-begins, some-level}
 use Rattle.part_syntax.specs.declared.fault.ReadFault.{ReadFault}
 use Rattle.part_syntax.specs.declared.fault.ReadFault.TheVariants as faults
 use Rattle.part_syntax.specs.Grammar.{IsText}

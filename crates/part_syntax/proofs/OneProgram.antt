@@ -8,10 +8,11 @@ use Rattle.tel_lex.proofs.Once.{one_reading}
 use Rattle.tel_rule.specs.declared.parts.Part.TheVariants as parts
 use Rattle.tel_rule.specs.declared.statements.Statement.{Statement}
 use Rattle.tel_rule.specs.declared.statements.Program.{Program}
-use Rattle.formula_syntax.specs.Points.{Word, Known, Point, at}
-use Rattle.formula_syntax.specs.Refusals.{Begins}
-use Rattle.formula_syntax.specs.Steps.{Read, Got}
-use Rattle.formula_syntax.proofs.Fronts.{some-level}
+use Rattle.formula_syntax.specs.Points.{Word, Known, Point, Read}
+use Rattle.grammar_laws.specs.Points.{at}
+use Rattle.grammar_laws.specs.Refusals.{Begins}
+use Rattle.grammar_laws.specs.Steps.{Got}
+use Rattle.grammar_laws.proofs.Fronts.{some-level}
 use Rattle.part_syntax.specs.declared.fault.ReadFault.{ReadFault}
 use Rattle.part_syntax.specs.declared.fault.ReadFault.TheVariants as faults
 use Rattle.part_syntax.specs.Grammar.{Stated, IsText, statements_in}

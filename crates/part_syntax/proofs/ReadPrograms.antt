@@ -8,10 +8,11 @@ use Rattle.tel_lex.specs.declared.fault.LexFault.TheVariants as lexing
 use Rattle.tel_term.specs.declared.terms.Term.{Term}
 use Rattle.tel_rule.specs.declared.statements.Statement.{Statement}
 use Rattle.tel_rule.specs.declared.statements.Program.{Program}
-use Rattle.formula_syntax.specs.Points.{Word, Known, Point, at, begins}
-use Rattle.formula_syntax.specs.Refusals.{Begins}
-use Rattle.formula_syntax.specs.Steps.{Why, Unexpected, Deep, Read, Got, Stuck, at_most}
-use Rattle.formula_syntax.proofs.Readers.{round, at_most-more, at_most-end}
+use Rattle.formula_syntax.specs.Points.{Word, Known, Point, Read}
+use Rattle.grammar_laws.specs.Points.{at, begins}
+use Rattle.grammar_laws.specs.Refusals.{Begins}
+use Rattle.grammar_laws.specs.Steps.{Why, Unexpected, Deep, Got, Stuck, at_most}
+use Rattle.grammar_laws.proofs.Readers.{round, at_most-more, at_most-end}
 use Rattle.part_syntax.specs.declared.fault.ReadFault.{ReadFault}
 use Rattle.part_syntax.specs.declared.fault.ReadFault.TheVariants as faults
 use Rattle.part_syntax.specs.Grammar.{IsItem, Stated, IsText, afresh}

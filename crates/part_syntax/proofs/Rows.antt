@@ -2,13 +2,15 @@
 use Rattle.std.proofs.Common.{◌≡◌, ℕ, suc, Bool, true, false, List, [], ◌∷◌, ◌++◌, length, refl, sym, ap, ◌∙◌, append_assoc}
 use Rattle.std.specs.Prelude.{◌≢◌}
 use Rattle.std.proofs.lemmas.List.{append-nil}
-use Rattle.formula_syntax.specs.Points.{Word, Point, begins}
-use Rattle.formula_syntax.specs.Steps.{Why, Read, Got, Stuck, Reader, and_then, map_read, made, both, at_most, each}
-use Rattle.formula_syntax.specs.Grammar.{behind, behind_all}
+use Rattle.formula_syntax.specs.Points.{Word, Point, Read, Reader}
+use Rattle.grammar_laws.specs.Points.{begins}
+use Rattle.grammar_laws.specs.Steps.{Why, Got, Stuck, and_then, map_read, made, both, at_most, each}
+use Rattle.grammar_laws.specs.Productions.{behind}
+use Rattle.formula_syntax.specs.Grammar.{behind_all}
 use Rattle.formula_syntax.specs.declared.reading.Stop.{Stop}
 use Rattle.formula_syntax.specs.declared.reading.Stop.TheVariants as stops
 use Rattle.formula_syntax.specs.Given.{why_of}
-use Rattle.formula_syntax.proofs.Readers.{at_most-more, at_most-end}
+use Rattle.grammar_laws.proofs.Readers.{at_most-more, at_most-end}
 use Rattle.part_syntax.specs.Grammar.{chain_of}
 
 -- the things that were read, and behind them those that are still to be read

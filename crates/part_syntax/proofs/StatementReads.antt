@@ -4,23 +4,23 @@ use Rattle.tel_rule.specs.declared.statements.Fact.{Fact}
 use Rattle.tel_rule.specs.declared.statements.Head.{Head}
 use Rattle.formula_syntax.specs.declared.marks.Mark.TheVariants as marks
 use Rattle.formula_syntax.specs.Points.{Word}
-use Rattle.formula_syntax.specs.Steps.{passes, or_also}
+use Rattle.grammar_laws.specs.Steps.{passes, or_also}
 use Rattle.formula_syntax.specs.Grammar.{sign}
 use Rattle.formula_syntax.specs.Reading.{starts_atom}
-use Rattle.formula_syntax.proofs.Readers.{nothing, wider-starts}
-use Rattle.formula_syntax.proofs.Nonterminals.{Lifts, Apart, either-lifts}
-use Rattle.part_syntax.specs.Descriptions.{alone, given, or, means, begun_by}
-use Rattle.part_syntax.specs.Grammar.{Produces, AnAtom, IsThing, facts, head_of, behind_facts, other_item, IsFactOrRule, IsItem}
+use Rattle.grammar_laws.proofs.Readers.{nothing, wider-starts}
+use Rattle.grammar_laws.proofs.Nonterminals.{Lifts, Apart, either-lifts}
+use Rattle.part_syntax.specs.Grammar.{alone, Produces, AnAtom, IsThing, facts, head_of, behind_facts, other_item, IsFactOrRule, IsItem}
+use Rattle.grammar_laws.specs.Productions.{given, or, means, begun_by}
 use Rattle.part_syntax.specs.Reading.{read_thing, read_as, read_facts, read_behind, read_fact_or_rule, read_item, starts, starts_item}
-use Rattle.part_syntax.proofs.Described.{gone_on_by, fine, reads-it, lifts-it, apart-next, apart-begun}
-use Rattle.part_syntax.proofs.ReadBy.{Read_by, either-read, after-read, after-lifts}
+use Rattle.grammar_laws.proofs.Described.{gone_on_by, fine, reads-it, lifts-it, apart-next, apart-begun}
+use Rattle.grammar_laws.proofs.ReadBy.{Read_by, either-read, after-read, after-lifts}
 use Rattle.part_syntax.proofs.Things.{words, thing-read, thing-lifts}
 
 produced-read : {A : Type 0} (p : Produces A) → fine words p ≡ true → (n : ℕ) → Read_by (means (IsThing n) p) (read_as p n) (begun_by starts p) (gone_on_by words p)
-produced-read p ok n = reads-it (IsThing n) (read_thing n) words (thing-read n) p ok
+produced-read p ok n = reads-it words (IsThing n) (read_thing n) (thing-read n) p ok
 
 produced-lifts : {A : Type 0} (p : Produces A) → fine words p ≡ true → (n : ℕ) → Lifts (means (IsThing n) p) (means (IsThing (suc n)) p) (read_as p n) (read_as p (suc n))
-produced-lifts p ok n = lifts-it (IsThing n) (IsThing (suc n)) (read_thing n) (read_thing (suc n)) words (thing-lifts n) (thing-read (suc n)) p ok
+produced-lifts p ok n = lifts-it words (IsThing n) (IsThing (suc n)) (read_thing n) (read_thing (suc n)) (thing-lifts n) (thing-read (suc n)) p ok
 
 -- ---- facts, and the rules that begin like facts
 

@@ -3,11 +3,12 @@ use Rattle.std.proofs.Common.{◌≡◌, ℕ, List, [], ◌∷◌, ◌++◌, Opt
 use Rattle.std.proofs.lemmas.List.{append-nil}
 use Rattle.tel_base.specs.declared.places.Place.{Place}
 use Rattle.tel_lex.specs.declared.fault.LexFault.{LexFault}
-use Rattle.formula_syntax.specs.Points.{Word, Known, Point, at}
-use Rattle.formula_syntax.specs.Refusals.{Begins, AtSomeLevel}
-use Rattle.formula_syntax.specs.Steps.{Unexpected, Deep, Read, Got, Stuck}
-use Rattle.formula_syntax.proofs.Steady.{near-got}
-use Rattle.formula_syntax.proofs.Outcomes.{Family, up, stands-longest, stuck-stops, whole-read, stuck-up, too_deep}
+use Rattle.formula_syntax.specs.Points.{Word, Known, Point, Read}
+use Rattle.grammar_laws.specs.Points.{at}
+use Rattle.grammar_laws.specs.Refusals.{Begins, AtSomeLevel}
+use Rattle.grammar_laws.specs.Steps.{Unexpected, Deep, Got, Stuck}
+use Rattle.grammar_laws.proofs.Steady.{near-got}
+use Rattle.grammar_laws.proofs.Outcomes.{Family, up, stands-longest, stuck-stops, whole-read, stuck-up, too_deep}
 use Rattle.part_syntax.specs.Grammar.{Stated, IsText}
 use Rattle.part_syntax.specs.Reading.{read_text}
 use Rattle.part_syntax.specs.Programs.{IsSyntaxAt, IsDeepAt}

@@ -3,14 +3,15 @@ use Rattle.std.proofs.Common.{◌≡◌, ℕ, suc, ◌<◌, Bool, true, List, []
 use Rattle.std.proofs.lemmas.List.{length-append}
 use Rattle.std.proofs.lemmas.Bool.{false≢true}
 use Rattle.tel_base.specs.declared.places.Place.{Place}
-use Rattle.formula_syntax.specs.Points.{Word, Known, Point, at, begins}
-use Rattle.formula_syntax.specs.Steps.{Why, Unexpected, Deep, Read, Got, Stuck, rest_of, with_rest, or_also}
-use Rattle.formula_syntax.proofs.Readers.{head, ends, Near, Framed, Goes, Lives, Reads, nothing}
-use Rattle.formula_syntax.proofs.Levels.{Raised}
-use Rattle.formula_syntax.proofs.Nonterminals.{Lifts}
+use Rattle.formula_syntax.specs.Points.{Word, Known, Point, Read}
+use Rattle.grammar_laws.specs.Points.{at, begins}
+use Rattle.grammar_laws.specs.Steps.{Why, Unexpected, Deep, Got, Stuck, rest_of, with_rest, or_also}
+use Rattle.grammar_laws.proofs.Readers.{head, ends, Near, Framed, Goes, Lives, Reads, nothing}
+use Rattle.grammar_laws.proofs.Levels.{Raised}
+use Rattle.grammar_laws.proofs.Nonterminals.{Lifts}
 use Rattle.part_syntax.specs.Grammar.{Item, IsItem, Stated, IsStated, IsText, afresh}
 use Rattle.part_syntax.specs.Reading.{read_item, starts_item, place_at, noted, read_stated, read_text}
-use Rattle.part_syntax.proofs.ReadBy.{Read_by, each-opened, each-lifts}
+use Rattle.grammar_laws.proofs.ReadBy.{Read_by, each-opened, each-lifts}
 use Rattle.part_syntax.proofs.StatementReads.{item-read, item-lifts}
 
 -- ---- items with their places and variables

@@ -4,12 +4,13 @@ use Rattle.std.specs.Prelude.{◌≢◌}
 use Rattle.std.proofs.lemmas.List.{append-nil}
 use Rattle.tel_rule.specs.declared.parts.Part.{Part}
 use Rattle.tel_rule.specs.declared.statements.Statement.{Statement}
-use Rattle.formula_syntax.specs.Points.{Word, Point, begins}
-use Rattle.formula_syntax.specs.Steps.{Read, Got, Stuck, Reader, and_then, map_read, at_most}
+use Rattle.formula_syntax.specs.Points.{Word, Point, Read, Reader}
+use Rattle.grammar_laws.specs.Points.{begins}
+use Rattle.grammar_laws.specs.Steps.{Got, Stuck, and_then, map_read, at_most}
 use Rattle.formula_syntax.specs.declared.reading.Stop.{Stop}
 use Rattle.formula_syntax.specs.declared.reading.Stop.TheVariants as stops
 use Rattle.formula_syntax.specs.Given.{why_of}
-use Rattle.formula_syntax.proofs.Readers.{at_most-more, at_most-end}
+use Rattle.grammar_laws.proofs.Readers.{at_most-more, at_most-end}
 use Rattle.part_syntax.specs.Grammar.{Stated, part_behind, said_in, statements_in}
 
 -- the statements so far, and behind them those of the items, from this part on

@@ -6,12 +6,13 @@ use Rattle.tel_lex.specs.declared.fault.LexFault.{LexFault}
 use Rattle.tel_term.specs.declared.terms.Term.{Term}
 use Rattle.tel_rule.specs.declared.parts.Part.TheVariants as parts
 use Rattle.tel_rule.specs.declared.statements.Statement.{Statement}
-use Rattle.formula_syntax.specs.Points.{Word, Point, at}
-use Rattle.formula_syntax.specs.Steps.{Why, Read, Got, Stuck, made, each}
+use Rattle.formula_syntax.specs.Points.{Word, Point, Read}
+use Rattle.grammar_laws.specs.Points.{at}
+use Rattle.grammar_laws.specs.Steps.{Why, Got, Stuck, made, each}
 use Rattle.formula_syntax.specs.declared.reading.Stop.{Stop}
 use Rattle.formula_syntax.specs.declared.reading.Stop.TheVariants as stops
 use Rattle.formula_syntax.specs.Given.{why_of}
-use Rattle.formula_syntax.proofs.Readers.{map-got, map-stuck}
+use Rattle.grammar_laws.proofs.Readers.{map-got, map-stuck}
 use Rattle.part_syntax.specs.declared.fault.ReadFault.{ReadFault}
 use Rattle.part_syntax.specs.declared.fault.ReadFault.TheVariants as faults
 use Rattle.part_syntax.specs.Grammar.{Stated, statements_in}

@@ -3,8 +3,9 @@ use Rattle.std.specs.Prelude.{◌≡◌, ◌≢◌, ℕ, ◌+◌, ◌≤◌, Lis
 use Rattle.tel_rule.specs.declared.statements.Literal.{Literal}
 use Rattle.formula_syntax.specs.declared.reading.Stop.{Stop}
 use Rattle.formula_syntax.specs.declared.reading.Stop.TheVariants as stops
-use Rattle.formula_syntax.specs.Points.{Point, at}
-use Rattle.formula_syntax.specs.Steps.{Read, Got, Stuck, Reader}
+use Rattle.formula_syntax.specs.Points.{Point, Read, Reader}
+use Rattle.grammar_laws.specs.Points.{at}
+use Rattle.grammar_laws.specs.Steps.{Got, Stuck}
 use Rattle.formula_syntax.specs.Given.{why_of}
 use Rattle.part_syntax.specs.declared.items.Item as declared
 use Rattle.part_syntax.specs.declared.items.Item.TheVariants as items

@@ -23,12 +23,14 @@ use Rattle.tel_rule.specs.declared.statements.Signature.{Signature}
 use Rattle.tel_rule.specs.declared.statements.Kind.{Kind}
 use Rattle.tel_rule.specs.declared.statements.Kind.TheVariants as kinds
 use Rattle.tel_rule.specs.declared.statements.Statement.{Statement}
+use Rattle.formula_syntax.specs.declared.marks.Mark.{Mark}
 use Rattle.formula_syntax.specs.declared.marks.Mark.TheVariants as marks
-use Rattle.formula_syntax.specs.Points.{Word, Known, Point, at}
+use Rattle.formula_syntax.specs.Points.{Word, Known, Point, Grammar}
+use Rattle.grammar_laws.specs.Points.{at}
 use Rattle.formula_syntax.specs.Senses.{Sense, Name, Number, Sign, sense, number_of}
-use Rattle.formula_syntax.specs.Shapes.{Grammar, One, Then, Made, Either, Each, After}
-use Rattle.part_syntax.specs.Descriptions.{Production, given, alone, led, ended, ended_from, made_of, and, and_on, and_from, or, many, few, perhaps, means}
-use Rattle.formula_syntax.specs.Grammar.{by_itself, plain, sign, behind, name, further_arguments, behind_all, is_there, count, SignRead, IsSign, IsExpr, IsAtom, IsFormula}
+use Rattle.grammar_laws.specs.Shapes.{One, Then, Made, Either, Each, After}
+use Rattle.formula_syntax.specs.Grammar.{by_itself, plain, sign, name, further_arguments, behind_all, is_there, count, SignRead, IsSign, IsExpr, IsAtom, IsFormula}
+use Rattle.grammar_laws.specs.Productions.{Production, given, led as led_by, ended as ended_by, ended_from as ended_from_by, made_of, and, and_on, and_from, or, many, few, perhaps, means, behind}
 
 -- ---- words
 
@@ -101,8 +103,9 @@ IsAtomItem n = Made items.Atom (IsAtom (suc n))
 abbrev pub IsPlain : ℕ → Grammar LitItem
 IsPlain n = Either (IsAtomItem n) (IsComparison n)
 
--- What the productions of statements are made of, beside signs.
+-- What the productions of statements are made of.
 pub data Thing : Type 0 where
+  AMark : Mark → Thing
   ATel : Thing
   AName : Thing
   APart : Thing
@@ -116,6 +119,7 @@ pub data Thing : Type 0 where
   APlain : Thing
 
 abbrev pub Of : Thing → Type 0
+Of (AMark mark) = Unit {0}
 Of ATel = Unit {0}
 Of AName = List ℕ
 Of APart = Part
@@ -129,6 +133,7 @@ Of AFormula = Formula
 Of APlain = LitItem
 
 abbrev pub IsThing : ℕ → (thing : Thing) → Grammar (Of thing)
+IsThing n (AMark mark) = One (sign mark)
 IsThing n ATel = One tel_word
 IsThing n AName = One name
 IsThing n APart = One part
@@ -143,6 +148,19 @@ IsThing n APlain = IsPlain n
 
 abbrev pub Produces : Type 0 → Type 1
 Produces A = Production Thing Of false A
+
+-- a sign alone, before a thing, and behind a thing; it gives no value
+abbrev pub alone : Mark → Produces (Unit {0})
+alone mark = given (AMark mark)
+
+abbrev pub led : {A : Type 0} → Mark → Produces A → Produces A
+led mark p = led_by (AMark mark) p
+
+abbrev pub ended : {A : Type 0} → Produces A → Mark → Produces A
+ended p mark = ended_by p (AMark mark)
+
+abbrev pub ended_from : {A : Type 0} → Production Thing Of true A → Mark → Produces A
+ended_from p mark = ended_from_by p (AMark mark)
 
 -- tel = "&" "tel" "{" formula "}"
 abbrev pub tel : Produces LitItem

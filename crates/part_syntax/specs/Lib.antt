@@ -1,4 +1,3 @@
-pub mod Descriptions
 pub mod Given
 pub mod Grammar
 pub mod Outcomes

@@ -7,8 +7,9 @@ use Rattle.tel_lex.specs.Tokens.{IsLexed}
 use Rattle.tel_term.specs.declared.terms.Term.{Term}
 use Rattle.tel_rule.specs.declared.parts.Part.TheVariants as parts
 use Rattle.tel_rule.specs.declared.statements.Statement.{Statement}
-use Rattle.formula_syntax.specs.Points.{Word, Known, at}
-use Rattle.formula_syntax.specs.Steps.{Why, Unexpected, Deep, Read, Got, Stuck}
+use Rattle.formula_syntax.specs.Points.{Word, Known, Read}
+use Rattle.grammar_laws.specs.Points.{at}
+use Rattle.grammar_laws.specs.Steps.{Why, Unexpected, Deep, Got, Stuck}
 use Rattle.part_syntax.specs.declared.fault.ReadFault.{ReadFault}
 use Rattle.part_syntax.specs.declared.fault.ReadFault.TheVariants as faults
 use Rattle.part_syntax.specs.Grammar.{Stated, statements_in}

@@ -8,8 +8,9 @@ use Rattle.tel_lex.specs.Tokens.{IsLexed}
 use Rattle.tel_rule.specs.declared.parts.Part.TheVariants as parts
 use Rattle.tel_rule.specs.declared.statements.Statement.{Statement}
 use Rattle.tel_rule.specs.declared.statements.Program.{Program}
-use Rattle.formula_syntax.specs.Points.{Word, Known, at}
-use Rattle.formula_syntax.specs.Refusals.{Begins, IsWhole, AtSomeLevel}
+use Rattle.formula_syntax.specs.Points.{Word, Known}
+use Rattle.grammar_laws.specs.Points.{at}
+use Rattle.grammar_laws.specs.Refusals.{Begins, IsWhole, AtSomeLevel}
 use Rattle.part_syntax.specs.declared.fault.ReadFault.{ReadFault}
 use Rattle.part_syntax.specs.declared.fault.ReadFault.TheVariants as faults
 use Rattle.part_syntax.specs.Grammar.{Stated, IsText, statements_in}

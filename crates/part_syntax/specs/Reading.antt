@@ -9,12 +9,13 @@ use Rattle.tel_rule.specs.declared.statements.LitItem.TheVariants as items
 use Rattle.tel_rule.specs.declared.statements.Literal.{Literal}
 use Rattle.tel_rule.specs.declared.statements.Arg.{Arg}
 use Rattle.tel_rule.specs.declared.statements.Fact.{Fact}
-use Rattle.formula_syntax.specs.Points.{Word, at, begins}
-use Rattle.formula_syntax.specs.Steps.{Read, Got, Stuck, Reader, made, one, both, either, each, after, passes, or_also}
+use Rattle.formula_syntax.specs.Points.{Word, Read, Reader}
+use Rattle.grammar_laws.specs.Points.{at, begins}
+use Rattle.grammar_laws.specs.Steps.{Got, Stuck, made, one, both, either, each, after, passes, or_also}
 use Rattle.formula_syntax.specs.Grammar.{name, leaf, product_op, sum_op, sign}
 use Rattle.formula_syntax.specs.Reading.{read_sign, read_expr, read_atom, read_formula, starts_atom, starts_flat, opens_value, opens_unary}
-use Rattle.part_syntax.specs.Descriptions.{begun_by, reader}
-use Rattle.part_syntax.specs.Grammar.{separator, tel_word, part, arity, relation, compare_of, Item, Thing, ATel, AName, APart, AnArity, ASeparator, ASign, AnExpr, AnAtomItem, AnAtom, AFormula, APlain, Of, Produces, tel, negatable, negated, any_literal, body, tail, arg, tuple, tuples, facts, head_of, behind_facts, signature, other_item, Stated, afresh}
+use Rattle.grammar_laws.specs.Productions.{begun_by, reader}
+use Rattle.part_syntax.specs.Grammar.{separator, tel_word, part, arity, relation, compare_of, Item, Thing, AMark, ATel, AName, APart, AnArity, ASeparator, ASign, AnExpr, AnAtomItem, AnAtom, AFormula, APlain, Of, Produces, tel, negatable, negated, any_literal, body, tail, arg, tuple, tuples, facts, head_of, behind_facts, signature, other_item, Stated, afresh}
 
 -- ---- literals
 
@@ -55,6 +56,7 @@ starts_plain = or_also starts_atom starts_value
 
 -- the words that a thing begins with
 abbrev pub starts : Thing → Word → Bool
+starts (AMark mark) = passes (sign mark)
 starts ATel = passes tel_word
 starts AName = passes name
 starts APart = passes part
@@ -68,6 +70,7 @@ starts AFormula = starts_unary
 starts APlain = starts_plain
 
 abbrev pub read_thing : ℕ → (thing : Thing) → Reader (Of thing)
+read_thing n (AMark mark) = one (sign mark)
 read_thing n ATel = one tel_word
 read_thing n AName = one name
 read_thing n APart = one part

@@ -1,10 +1,10 @@
 ghost use Rattle.std.specs.Prelude.{◌≡◌};
-ghost use Rattle.formula_syntax.specs.Steps.{one, both, maybe, made, each, at_most, passes};
-ghost use Rattle.formula_syntax.specs.Grammar.{behind, sign};
+ghost use Rattle.grammar_laws.specs.Steps.{one, both, maybe, made, each, at_most, passes};
+ghost use Rattle.grammar_laws.specs.Productions.{behind, first_of};
+ghost use Rattle.formula_syntax.specs.Grammar.{sign};
 ghost use Rattle.formula_syntax.specs.Given.{Reads};
 ghost use Rattle.part_syntax.specs.Grammar as grammar;
 ghost use Rattle.part_syntax.specs.Reading as readers;
-ghost use Rattle.part_syntax.specs.Descriptions.{first_of};
 ghost use Rattle.part_syntax.specs.Given.{IsFrugal};
 
 use crate::literals::expr;

@@ -2,7 +2,8 @@ ghost use Rattle.std.specs.Prelude.{◌≡◌, ◌≢◌, ◌+◌, ◌-◌, ◌^
 ghost use Rattle.tel_lex.specs.Tokens.{IsLexed, tokens_of};
 ghost use Rattle.tel_rule.specs.declared.statements.Program.{Program};
 ghost use Rattle.tel_rule.specs.declared.statements.Statement.{Statement};
-ghost use Rattle.formula_syntax.specs.Points.{words_of, at};
+ghost use Rattle.formula_syntax.specs.Points.{words_of};
+ghost use Rattle.grammar_laws.specs.Points.{at};
 ghost use Rattle.formula_syntax.specs.Given.{why_of};
 ghost use Rattle.part_syntax.specs.Reading.{read_text};
 ghost use Rattle.part_syntax.specs.Programs.{total_bytes};

@@ -1,10 +1,10 @@
 ghost use Rattle.std.specs.Prelude.{◌≡◌};
-ghost use Rattle.formula_syntax.specs.Points.{begins};
+ghost use Rattle.grammar_laws.specs.Points.{begins};
 ghost use Rattle.formula_syntax.specs.Reading as formulas;
-ghost use Rattle.formula_syntax.specs.Steps.{one, maybe, either, made, passes};
+ghost use Rattle.grammar_laws.specs.Steps.{one, maybe, either, made, passes};
 ghost use Rattle.formula_syntax.specs.Grammar.{sign};
 ghost use Rattle.formula_syntax.specs.Given.{Reads};
-ghost use Rattle.part_syntax.specs.Descriptions.{or};
+ghost use Rattle.grammar_laws.specs.Productions.{or};
 ghost use Rattle.part_syntax.specs.Grammar as grammar;
 ghost use Rattle.part_syntax.specs.Reading as readers;
 ghost use Rattle.part_syntax.specs.Given.{ReadsItem, IsFrugal};

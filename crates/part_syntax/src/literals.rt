@@ -1,12 +1,13 @@
 ghost use Rattle.std.specs.Prelude.{◌≡◌, ◌+◌, ◌≤◌, suc, true, false};
-ghost use Rattle.formula_syntax.specs.Points.{words_of, begins};
-ghost use Rattle.formula_syntax.specs.Steps.{Got, one, both, maybe, made, passes, either};
+ghost use Rattle.formula_syntax.specs.Points.{words_of};
+ghost use Rattle.grammar_laws.specs.Points.{begins};
+ghost use Rattle.grammar_laws.specs.Steps.{Got, one, both, maybe, made, passes, either};
 ghost use Rattle.formula_syntax.specs.Reading as formulas;
-ghost use Rattle.formula_syntax.specs.Grammar.{sign, count, behind};
+ghost use Rattle.formula_syntax.specs.Grammar.{sign, count};
+ghost use Rattle.grammar_laws.specs.Productions.{behind, first_of};
 ghost use Rattle.formula_syntax.specs.Given.{Reads};
 ghost use Rattle.part_syntax.specs.Grammar as grammar;
 ghost use Rattle.part_syntax.specs.Reading as readers;
-ghost use Rattle.part_syntax.specs.Descriptions.{first_of};
 ghost use Rattle.part_syntax.specs.Given.{IsFrugal, body_or_none};
 
 use crate::words;

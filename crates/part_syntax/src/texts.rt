@@ -1,6 +1,6 @@
 ghost use Rattle.std.specs.Prelude.{◌≡◌, ◌+◌, ◌≤◌, ◌++◌, length, IfOk, OnOk};
-ghost use Rattle.formula_syntax.specs.Points.{at};
-ghost use Rattle.formula_syntax.specs.Steps.{made, each};
+ghost use Rattle.grammar_laws.specs.Points.{at};
+ghost use Rattle.grammar_laws.specs.Steps.{made, each};
 ghost use Rattle.formula_syntax.specs.Given.{Reads};
 ghost use Rattle.tel_rule.specs.declared.parts.Part.TheVariants as parts;
 ghost use Rattle.part_syntax.specs.Grammar as grammar;

@@ -1,7 +1,7 @@
 ghost use Rattle.std.specs.Prelude.{◌≡◌, ◌<◌, ◌^◌};
 ghost use Rattle.std.specs.Option.{option_map, option_and_then};
-ghost use Rattle.formula_syntax.specs.Points.{begins};
-ghost use Rattle.formula_syntax.specs.Steps.{one, passes};
+ghost use Rattle.grammar_laws.specs.Points.{begins};
+ghost use Rattle.grammar_laws.specs.Steps.{one, passes};
 ghost use Rattle.formula_syntax.specs.Grammar as formulas;
 ghost use Rattle.formula_syntax.specs.Given.{Reads, said};
 ghost use Rattle.part_syntax.specs.Grammar as grammar;

@@ -1,7 +1,7 @@
 use Rattle.formula_syntax.specs.declared.marks.Mark.TheVariants as marks
 use Rattle.std.proofs.Common.{◌≡◌, ◌+◌, ◌-◌, suc, arith, rules}
 use Rattle.std.proofs.lemmas.Result.{err_from_is_err_and}
-use Rattle.formula_syntax.specs.Steps.{one, both, passes}
+use Rattle.grammar_laws.specs.Steps.{one, both, passes}
 use Rattle.part_syntax.specs.Reading.{read_tuple}
 use Rattle.part_syntax.proofs.Rows.{rows_each, rows_end, rows_more, rows_stop, rows_last}
 use Rattle.part_syntax.proofs.facts.open_tuples.Goals as goal

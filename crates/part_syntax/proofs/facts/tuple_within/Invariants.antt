@@ -1,6 +1,6 @@
 use Rattle.formula_syntax.specs.declared.marks.Mark.TheVariants as marks
 use Rattle.std.proofs.Common.{◌≡◌, ◌-◌}
-use Rattle.formula_syntax.specs.Steps.{made, one, both, at_most, passes}
+use Rattle.grammar_laws.specs.Steps.{made, one, both, at_most, passes}
 use Rattle.formula_syntax.specs.Grammar.{sign}
 use Rattle.part_syntax.specs.Grammar.{chain_of}
 use Rattle.part_syntax.specs.Reading.{read_arg}

@@ -1,6 +1,6 @@
 use Rattle.std.proofs.Common.{◌≡◌, ◌+◌, ◌-◌, suc, arith, rules}
 use Rattle.std.proofs.lemmas.Result.{err_from_is_err_and}
-use Rattle.formula_syntax.specs.Steps.{one, both, passes}
+use Rattle.grammar_laws.specs.Steps.{one, both, passes}
 use Rattle.part_syntax.specs.Grammar.{separator}
 use Rattle.part_syntax.specs.Reading.{read_literal}
 use Rattle.part_syntax.proofs.Rows.{rows_each, rows_end, rows_more, rows_stop}

@@ -1,5 +1,5 @@
 use Rattle.std.proofs.Common.{◌≡◌, ◌-◌}
-use Rattle.formula_syntax.specs.Steps.{one, both, passes}
+use Rattle.grammar_laws.specs.Steps.{one, both, passes}
 use Rattle.part_syntax.specs.Grammar.{separator}
 use Rattle.part_syntax.specs.Reading.{read_literal, read_body}
 use Rattle.part_syntax.specs.Given.{IsFrugal}

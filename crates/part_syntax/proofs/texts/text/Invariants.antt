@@ -1,5 +1,5 @@
 use Rattle.std.proofs.Common.{◌≡◌, ◌+◌, ◌-◌, ◌≤◌, length}
-use Rattle.formula_syntax.specs.Steps.{each}
+use Rattle.grammar_laws.specs.Steps.{each}
 use Rattle.tel_rule.specs.declared.parts.Part.TheVariants as parts
 use Rattle.part_syntax.specs.Reading.{starts_item}
 use Rattle.part_syntax.specs.Given.{IsFrugal, fresh_stated}

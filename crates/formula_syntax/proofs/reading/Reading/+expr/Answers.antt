@@ -1,7 +1,7 @@
 use Rattle.std.proofs.Common.{◌≡◌, suc, ◌+◌, ◌-◌, sym, ap, ◌∙◌, arith}
 use Rattle.std.proofs.lemmas.Result.{err_from_is_err_and}
 use Rattle.formula_syntax.specs.Points.{Point}
-use Rattle.formula_syntax.specs.Steps.{Got}
+use Rattle.grammar_laws.specs.Steps.{Got}
 use Rattle.formula_syntax.specs.Grammar.{product_op, sum_op}
 use Rattle.formula_syntax.specs.Reading.{read_value, read_product}
 use Rattle.formula_syntax.proofs.Chains.{chain_end, chain_more, chain_stuck}

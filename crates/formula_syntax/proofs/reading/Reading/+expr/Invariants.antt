@@ -1,5 +1,5 @@
 use Rattle.std.proofs.Common.{◌≡◌, ◌+◌, ◌-◌, ◌*◌}
-use Rattle.formula_syntax.specs.Steps.{one, both, each, passes}
+use Rattle.grammar_laws.specs.Steps.{one, both, each, passes}
 use Rattle.formula_syntax.specs.Grammar.{product_op, sum_op}
 use Rattle.formula_syntax.specs.Reading.{read_value, read_product}
 use Rattle.formula_syntax.specs.Given.{Onward}

@@ -4,7 +4,7 @@ use Rattle.std.proofs.lemmas.Result.{err_from_is_err_and}
 use Rattle.tel_rule.specs.declared.formulas.Formula.{Formula}
 use Rattle.tel_rule.specs.declared.formulas.ManyOp.TheVariants as manies
 use Rattle.formula_syntax.specs.Points.{Point}
-use Rattle.formula_syntax.specs.Steps.{Got}
+use Rattle.grammar_laws.specs.Steps.{Got}
 use Rattle.formula_syntax.specs.Grammar.{sign}
 use Rattle.formula_syntax.specs.Reading.{read_unary, read_pair, read_and}
 use Rattle.formula_syntax.proofs.Gathers.{gather_end, gather_more, gather_stuck}

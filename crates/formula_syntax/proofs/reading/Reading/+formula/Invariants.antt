@@ -1,6 +1,6 @@
 use Rattle.formula_syntax.specs.declared.marks.Mark.TheVariants as marks
 use Rattle.std.proofs.Common.{◌≡◌, ◌+◌, ◌-◌, ◌*◌}
-use Rattle.formula_syntax.specs.Steps.{one, both, each, passes}
+use Rattle.grammar_laws.specs.Steps.{one, both, each, passes}
 use Rattle.formula_syntax.specs.Grammar.{sign}
 use Rattle.formula_syntax.specs.Reading.{read_unary, read_pair, read_and}
 use Rattle.formula_syntax.specs.Given.{Onward}

@@ -2,7 +2,7 @@ use Rattle.formula_syntax.specs.declared.marks.Mark.TheVariants as marks
 use Rattle.std.proofs.Common.{◌≡◌, suc, ◌+◌, ◌-◌, sym, ap, ◌∙◌, arith}
 use Rattle.std.proofs.lemmas.Result.{err_from_is_err_and}
 use Rattle.formula_syntax.specs.Points.{Point}
-use Rattle.formula_syntax.specs.Steps.{Got}
+use Rattle.grammar_laws.specs.Steps.{Got}
 use Rattle.formula_syntax.specs.Grammar.{sign}
 use Rattle.formula_syntax.specs.Reading.{read_expr}
 use Rattle.formula_syntax.proofs.Gathers.{gather_end, gather_more, gather_stuck}

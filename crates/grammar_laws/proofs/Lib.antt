@@ -1,0 +1,11 @@
+pub mod Dependents
+pub mod Described
+pub mod Exclusive
+pub mod Fronts
+pub mod Levels
+pub mod Nonterminals
+pub mod Outcomes
+pub mod ReadBy
+pub mod Readers
+pub mod Sets
+pub mod Steady
