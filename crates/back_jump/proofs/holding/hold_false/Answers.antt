@@ -16,13 +16,13 @@ pub hold-requires-clause-settled : goal.hold-requires-clause-settled
 hold-requires-clause-settled c =
     let known = c.len-count.ensures in
     let at = c.second_level-level.ensures in
-    settled_below c.args.trail.now.vars c.args.trail.now.level c.second_level-level.result c.args.trail.now.entries c.args.lits.now known.ordered.apart known.levels c.requires.clause (omega (arith, at))
+    settled_below c.args.trail.now.vars c.args.trail.now.level _ c.args.trail.now.entries c.args.lits.now known.ordered.apart known.levels c.requires.clause (omega (arith, at))
 
 pub returns-clause-leaves : goal.returns-clause-leaves
 returns-clause-leaves c =
     let known = c.len-count.ensures in
     let at = c.second_level-level.ensures in
-    subst (λ (es : List Entry). IsFalseOrUnit es c.args.lits.now) (sym c.hold.ensures.entries) (false_or_unit c.args.trail.now.level c.second_level-level.result c.args.trail.now.entries c.args.lits.now known.ordered.apart known.levels c.requires.refuted (omega (arith, at)))
+    subst (λ (es : List Entry). IsFalseOrUnit es c.args.lits.now) (sym c.hold.ensures.entries) (false_or_unit c.args.trail.now.level _ c.args.trail.now.entries c.args.lits.now known.ordered.apart known.levels c.requires.refuted (omega (arith, at)))
 
 pub returns-clause-free : goal.returns-clause-free
 returns-clause-free c = false_free c.args.trail.now.vars (clauses_in c.args.store.now.clauses) c.args.lits.now c.args.trail.now.entries c.requires.clause c.requires.refuted

@@ -22,7 +22,7 @@ hold-requires-clause-settled c =
     let at = learnt.level in
     let low = learnt.lower in
     let second = learnt_second c.args.trail.now.level entries lits learnt.learnt.first (omega (arith, at, low)) in
-    settled_below c.args.trail.now.vars c.args.trail.now.level c.learn-learnt.result.level entries lits known.ordered.apart known.levels learnt.learnt.distinct (omega (arith, at, second))
+    settled_below c.args.trail.now.vars c.args.trail.now.level _ entries lits known.ordered.apart known.levels learnt.learnt.distinct (omega (arith, at, second))
 
 pub returns-clause-learns : goal.returns-clause-learns
 returns-clause-learns c =
