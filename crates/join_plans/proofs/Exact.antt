@@ -184,7 +184,7 @@ length-learn_all known [] = refl
 length-learn_all known (c ∷ cs) = length-learn_all (learn known c) cs ∙ length-learn known c
 
 -- lists with the same values at each place are one
-same_lists : (a b : List Value) → length a ≡ length b → ((v : ℕ) → v < length b → at a v ≡ at b v) → a ≡ b
+pub same_lists : (a b : List Value) → length a ≡ length b → ((v : ℕ) → v < length b → at a v ≡ at b v) → a ≡ b
 same_lists [] [] l h = refl
 same_lists [] (y ∷ b) l h = absurd (omega (arith, l))
 same_lists (x ∷ a) [] l h = absurd (omega (arith, l))

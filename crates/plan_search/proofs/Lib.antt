@@ -1,0 +1,11 @@
+pub mod Agreeing
+pub mod Dropping
+pub mod Entering
+pub mod Indexing
+pub mod Marks
+pub mod StepAt
+pub mod Terms
+pub mod TurnCases
+pub mod Turning
+pub mod Uneven
+pub mod Walked

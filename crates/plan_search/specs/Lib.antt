@@ -1,0 +1,4 @@
+pub mod Steps
+pub mod Putting
+pub mod Trying
+pub mod Searching

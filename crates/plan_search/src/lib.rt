@@ -1,0 +1,11 @@
+//! The search by a plan over the rows of tables.
+#![tactic(auto)]
+
+mod comparing;
+mod putting;
+mod rows;
+mod searching;
+mod steps;
+
+pub use searching::search;
+pub use steps::Step;
