@@ -1,14 +1,2 @@
 pub mod Fronts
-pub mod Writing
-pub mod FormulaLayers
-pub mod Named
-pub mod Printable
-pub mod Growing
-pub mod InRange
-pub mod Numbers
-pub mod Valued
-pub mod Said
-pub mod Grounded
-pub mod Verdicts
 pub mod TextSteps
-pub mod Runs

@@ -12,7 +12,8 @@ use Rattle.tel_settings.specs.declared.fields.Input.{Input}
 use Rattle.tel_settings.specs.declared.fields.Input.TheVariants as inputs
 use Rattle.tel_settings.specs.Command.{HasFiles}
 use Rattle.part_syntax.specs.Programs.{total_bytes}
-use Rattle.telingo_cli.specs.Reading.{largest_text, IsTold, HasMore}
+use Rattle.text_answer.specs.Verdict.{largest_text}
+use Rattle.telingo_cli.specs.Reading.{IsTold, HasMore}
 use Rattle.telingo_cli.specs.Texts.{AreTold, HaveLargeTexts, FailsAt, first_place}
 use Rattle.telingo_cli.specs.Top.{files_in}
 

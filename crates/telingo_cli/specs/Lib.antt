@@ -1,13 +1,4 @@
 pub mod Texts
 pub mod Files
 pub mod Reading
-pub mod Delivery
-pub mod Running
-pub mod FormulaValues
-pub mod Plain
-pub mod Naming
-pub mod Grounding
-pub mod Meaning
-pub mod Verdict
-pub mod Refusals
 pub mod Top

@@ -1,10 +1,6 @@
 -- How a text is read in pieces.
 use Rattle.std.specs.Prelude.{◌≡◌, ℕ, ◌≤◌, ◌<◌, List, Option, length, take, IfSome}
 
--- the most bytes that all texts together may have
-abbrev pub largest_text : ℕ
-largest_text = 1048576
-
 -- the bytes are a front of the text, where that is told
 abbrev pub IsFrontOf : Option (List ℕ) → List ℕ → Type 0
 IsFrontOf told bytes = IfSome told (λ text. (length bytes ≤ length text) × (bytes ≡ take (length bytes) text))

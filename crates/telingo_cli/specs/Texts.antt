@@ -5,7 +5,8 @@ use Rattle.std.specs.Str.{bytes_eq}
 use Rattle.tel_base.specs.Counts.{Rose}
 use Rattle.tel_rule.specs.Rising.{has_name}
 use Rattle.part_syntax.specs.Programs.{total_bytes}
-use Rattle.telingo_cli.specs.Reading.{largest_text, IsTold}
+use Rattle.text_answer.specs.Verdict.{largest_text}
+use Rattle.telingo_cli.specs.Reading.{IsTold}
 
 -- the texts are those of the names, in order, each the told one where it is told
 abbrev pub AreTold : (List ℕ → Option (List ℕ)) → List (List ℕ) → List (List ℕ) → Type 0

@@ -7,8 +7,8 @@ use Rattle.tel_settings.specs.declared.fields.Input.{Input}
 use Rattle.tel_settings.specs.declared.fields.Input.TheVariants as inputs
 use Rattle.tel_settings.specs.Command.{settings_of}
 use Rattle.telingo_cli.specs.Texts.{AreTold, FailsAt, first_place}
-use Rattle.telingo_cli.specs.Delivery.{Delivers}
-use Rattle.telingo_cli.specs.Verdict.{Answers, read_line, is_among}
+use Rattle.text_answer.specs.Delivery.{Delivers}
+use Rattle.text_answer.specs.Verdict.{Answers, read_line, is_among}
 
 -- the words, each by its bytes
 abbrev pub words_of : List (String Global) → List (List ℕ)

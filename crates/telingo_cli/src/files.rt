@@ -3,7 +3,7 @@ ghost use Rattle.std.specs.Prelude.{◌≡◌, ℕ, ◌+◌, ◌^◌, ◌<◌, �
 ghost use Rattle.std.specs.List.{position};
 ghost use Rattle.std.specs.Str.{bytes_eq};
 ghost use Rattle.part_syntax.specs.Programs.{total_bytes};
-ghost use Rattle.telingo_cli.specs.Reading.{largest_text};
+ghost use Rattle.text_answer.specs.Verdict.{largest_text};
 ghost use Rattle.telingo_cli.specs.Texts.{AreTold, HaveLargeTexts, FailedAt, first_place};
 ghost use Rattle.telingo_cli.specs.Files.{KeepsCount};
 

@@ -4,17 +4,15 @@ ghost use Rattle.tel_base.specs.Counts.{Rose, Stands};
 ghost use Rattle.tel_rule.specs.declared.statements.Program.{Program};
 ghost use Rattle.tel_settings.specs.declared.fields.Settings.{Settings};
 ghost use Rattle.tel_settings.specs.Command.{settings_of, IsWithinLimits};
-ghost use Rattle.telingo_cli.specs.Delivery.{code_of, Delivers, TellsFaults};
-ghost use Rattle.telingo_cli.specs.Verdict.{Verdict, Accepted, IsVerdict, status_of, output_of, TellsOfText, usage_line, is_among};
+ghost use Rattle.text_answer.specs.Delivery.{code_of, Delivers, TellsFaults};
+ghost use Rattle.text_answer.specs.Verdict.{Verdict, Accepted, IsVerdict, status_of, output_of, TellsOfText, usage_line, is_among};
 ghost use Rattle.telingo_cli.specs.Top.{words_of, files_of, AreTextsOf, AnswersSome, AnswersWords, FailedFile, FailedRead, KeepsReading, statuses};
 
-use crate::answering::answer;
 use crate::files::{FilesFault, read_files};
-use crate::refusing::{refuse_large, refuse_read, refuse_usage};
-use crate::status::Status;
 use std::alloc::Global;
 use tel_base::{Sink, Source};
 use tel_settings::{Input, Settings, SettingsFault, Word, settings};
+use text_answer::{Status, answer, refuse_large, refuse_read, refuse_usage};
 
 /// The names of the files.
 fn files(settings: &Settings) -> &[Word]

@@ -1,3 +1,4 @@
 pub mod Steps
 pub mod Rests
 pub mod Texts
+pub mod Writing

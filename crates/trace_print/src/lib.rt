@@ -3,8 +3,10 @@
 #![tactic(auto)]
 
 mod atoms;
+mod lengths;
 mod lines;
 mod pieces;
 mod printing;
 
+pub use lengths::print_all;
 pub use printing::{print_end, print_length, print_trace};

@@ -1,6 +1,6 @@
 use Rattle.std.proofs.Common.{◌≡◌, ℕ, ◌<◌, ◌≤◌, List, take, vec_len}
 use Rattle.part_syntax.specs.Programs.{total_bytes}
-use Rattle.telingo_cli.specs.Reading.{largest_text}
+use Rattle.text_answer.specs.Verdict.{largest_text}
 use Rattle.telingo_cli.specs.Texts.{AreTold}
 use Rattle.telingo_cli.proofs.files.read_files.Given as goal
 

@@ -1,12 +1,11 @@
 use Rattle.std.proofs.Common.{ℕ, ◌<◌, List, length, ap, sym, ◌∙◌, subst, arith}
 use Rattle.part_syntax.specs.Programs.{total_bytes}
-use Rattle.telingo_cli.specs.Reading.{largest_text}
 use Rattle.telingo_cli.specs.Texts.{AreTold, FailedAt}
-use Rattle.telingo_cli.specs.Delivery.{code_of, Delivers}
-use Rattle.telingo_cli.specs.Verdict.{IsVerdict, read_line}
+use Rattle.text_answer.specs.Delivery.{code_of, Delivers}
+use Rattle.text_answer.specs.Verdict.{largest_text, IsVerdict, read_line}
 use Rattle.telingo_cli.specs.Top.{files_of}
 use Rattle.telingo_cli.proofs.TextSteps.{told-length, few_files, whole-told}
-use Rattle.telingo_cli.proofs.Verdicts.{long-delivers}
+use Rattle.text_answer.proofs.Verdicts.{long-delivers}
 use Rattle.telingo_cli.proofs.top.answer_files.Goals as goal
 
 pub answer-requires-clause-few : goal.answer-requires-clause-few

@@ -1,6 +1,6 @@
-use Rattle.telingo_cli.specs.Delivery.{code_of}
-use Rattle.telingo_cli.specs.Verdict.{Accepted}
-use Rattle.telingo_cli.proofs.Verdicts.{accepted-complete}
+use Rattle.text_answer.specs.Delivery.{code_of}
+use Rattle.text_answer.specs.Verdict.{Accepted}
+use Rattle.text_answer.proofs.Verdicts.{accepted-complete}
 use Rattle.telingo_cli.proofs.top.telingo.Goals as goal
 
 pub returns-clause-complete : goal.returns-clause-complete

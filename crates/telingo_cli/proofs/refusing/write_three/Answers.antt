@@ -1,9 +1,0 @@
-use Rattle.std.proofs.Common.{◌++◌}
-use Rattle.tel_base.proofs.Told.{appends-then-ok, front-then-err}
-use Rattle.telingo_cli.proofs.refusing.write_three.Goals as goal
-
-pub returns-clause-ok : goal.returns-clause-ok
-returns-clause-ok g c = appends-then-ok c.write_two.result _ _ _ c.args.first.now (c.args.second.now ++ c.args.third.now) c.in_ok-write_whole.ensures.ok c.write_two.ensures.ok
-
-pub returns-clause-err : goal.returns-clause-err
-returns-clause-err g c = front-then-err c.write_two.result _ _ _ c.args.first.now (c.args.second.now ++ c.args.third.now) c.in_ok-write_whole.ensures.ok c.write_two.ensures.err

@@ -1,0 +1,5 @@
+pub mod FormulaValues
+pub mod Plain
+pub mod Naming
+pub mod Grounding
+pub mod Meaning

@@ -1,0 +1,17 @@
+use Rattle.std.proofs.Common.{sym, subst}
+use Rattle.tel_rule.specs.declared.statements.Program.{Program}
+use Rattle.rule_constants.specs.Replaced.{IsReplaced}
+use Rattle.text_answer.specs.Delivery.{code_of}
+use Rattle.text_answer.proofs.Verdicts.{passed-delivers, cause-delivers}
+use Rattle.text_answer.proofs.answering.answer_read.Goals as goal
+
+pub returns-in-Ok-clause-delivers : goal.returns-in-Ok-clause-delivers
+returns-in-Ok-clause-delivers g c =
+    let is = c.answer_program.ensures in
+    passed-delivers _ c.args.settings.now c.args.program c.program.result.now c.in-Ok.ensures.sound
+    (subst (λ (p : Program). IsReplaced c.args.program p) (sym c.program.ensures.program) c.in-Ok.ensures.replaced)
+    (record { accepted = is.accepted; unbuilt = is.unbuilt; large = is.large })
+
+pub returns-in-Err-clause-delivers : goal.returns-in-Err-clause-delivers
+returns-in-Err-clause-delivers g c =
+    cause-delivers c.args.settings.now c.args.program c.in-Err.cause (code_of c.answer_cause.result) (g.O.Sink.bytes c.args.out.now) (g.O.Sink.bytes c.answer_cause.new.out) c.in-Err.ensures.fault c.answer_cause.ensures.delivers

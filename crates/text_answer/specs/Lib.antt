@@ -1,0 +1,4 @@
+pub mod Delivery
+pub mod Running
+pub mod Verdict
+pub mod Refusals

@@ -1,0 +1,10 @@
+//! Laws of the definitions: functions that do nothing, whose contracts are proved facts.
+ghost use Rattle.std.specs.Prelude.{ℕ, List};
+ghost use Rattle.tel_settings.specs.declared.fields.Settings.{Settings};
+ghost use Rattle.text_answer.specs.Verdict.{Verdict, IsVerdict};
+
+/// Each list of texts has a verdict: it is accepted, refused for a fault or for a statement that isn't plain, or too large. So the
+/// clauses `answer` and `complete` of `telingo` speak of all texts.
+pub fn some_verdict()
+    ensures { (settings : Settings) (texts : List (List ℕ)) → (verdict : Verdict) × IsVerdict settings texts verdict }
+{}
