@@ -1,5 +1,5 @@
 -- Tokens have one answer, by their places.
-use Rattle.std.proofs.Common.{◌≡◌, ℕ, ◌≤◌, List, [], length, drop, Result, Ok, Err, ap, ◌∙◌, arith}
+use Rattle.std.proofs.Common.{◌≡◌, ℕ, ◌≤◌, List, length, drop, Result, Ok, Err, ap, ◌∙◌, arith}
 use Rattle.std.proofs.lemmas.List.{length-map, length-drop}
 use Rattle.tel_lex.specs.declared.token.Token.{Token}
 use Rattle.formula_syntax.specs.declared.names.Names.{Names}

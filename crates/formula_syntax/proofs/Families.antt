@@ -1,149 +1,30 @@
--- The readers of expressions, atoms and formulas read their grammars, at each number of levels.
-use Rattle.std.proofs.Common.{◌≡◌, ℕ, zero, suc, Bool, true, false, List, [], ◌∷◌, Option, Some, None, refl, sym, inl, inr}
-use Rattle.std.specs.Prelude.{◌||◌, codes, is_some}
-use Rattle.std.proofs.lemmas.Bool.{cases_Bool, false≢true}
-use Rattle.tel_lex.specs.declared.token.TokenKind.TheVariants as kinds
+-- The readers of expressions, atoms and formulas read their grammars, at each number of levels. Of a production is shown what
+-- its words and its given things are; the rest is one induction over all productions.
+use Rattle.std.proofs.Common.{◌≡◌, ℕ, zero, suc, Bool, true, false, List, [], ◌++◌, refl, ◌||◌}
 use Rattle.tel_term.specs.declared.exprs.Expr.{Expr}
-use Rattle.tel_rule.specs.declared.formulas.ConstOp.TheVariants as consts
-use Rattle.tel_rule.specs.declared.formulas.UnaryOp.TheVariants as unaries
-use Rattle.tel_rule.specs.declared.formulas.BinaryOp.TheVariants as binaries
-use Rattle.tel_term.specs.declared.exprs.SumOp.TheVariants as sums
-use Rattle.tel_term.specs.declared.exprs.ProductOp.TheVariants as products
-use Rattle.formula_syntax.specs.declared.marks.Mark.{Mark}
+use Rattle.tel_rule.specs.declared.formulas.Formula.{Formula}
 use Rattle.formula_syntax.specs.declared.marks.Mark.TheVariants as marks
-use Rattle.formula_syntax.specs.Points.{Word, Known, Point, Grammar, Reader}
 use Rattle.grammar_laws.specs.Points.{at, begins}
-use Rattle.formula_syntax.specs.Senses.{Sense, Sign, sense}
-use Rattle.grammar_laws.specs.Shapes.{One, Then, Made, Either, Each}
-use Rattle.grammar_laws.specs.Steps.{Unexpected, Stuck, made, one, both, either, each, passes, or_also}
-use Rattle.formula_syntax.specs.Grammar.{plain, by_itself, leaf, leaf_of, name, product_op, product_op_of, sum_op, sum_op_of, pair_op, arrow_op, prefix_op, const_op, product_of, sum_of, negative_of, between, new_var, Bracketed, ProductOf, SumOf, IsValue, IsExpr, sign, is_sign}
-use Rattle.formula_syntax.specs.Reading.{read_bracketed, read_product, read_sum, read_negative, opens_value, read_value, read_expr}
-use Rattle.grammar_laws.proofs.Readers.{Near, nothing, flat-reads, wider-starts}
-use Rattle.grammar_laws.proofs.Levels.{flat-raises}
-use Rattle.grammar_laws.proofs.Steady.{flat-steady}
+use Rattle.grammar_laws.specs.Shapes.{One, Then, Each, Maybe}
+use Rattle.grammar_laws.specs.Productions.{terminal, and, many, perhaps}
+use Rattle.grammar_laws.specs.Steps.{Unexpected, Stuck, one, both, each, maybe, passes, or_also}
+use Rattle.grammar_laws.proofs.Readers.{nothing}
+use Rattle.grammar_laws.proofs.Steady.{Steady, one-steady, one-takes}
 use Rattle.grammar_laws.proofs.Outcomes.{Family}
-use Rattle.grammar_laws.proofs.Nonterminals.{Known_by, Lifts, Apart, Passing, Optional_by, one-known, one-lifts, made-known, made-lifts, then-known, then-lifts, either-known, either-lifts, operand-known, operand-lifts, chain-known, chain-lifts, operands-optional}
+use Rattle.grammar_laws.proofs.Nonterminals.{Lifts, Apart, one-lifts, either-lifts}
+use Rattle.grammar_laws.proofs.ReadBy.{Read_by, Opened_by, one-read, maybe-opened}
+use Rattle.grammar_laws.proofs.Sets.{LiesIn, nothing-lies, or-lies, apart-by}
+use Rattle.grammar_laws.proofs.Described.{Words, gone_on_by, begun_set, more_set, begun-lies, more-lies, reads-it, lifts-it}
+use Rattle.grammar_laws.proofs.Steadies.{Keeps, keeps-it}
+use Rattle.grammar_laws.proofs.Absent.{absent-it, alone-it}
+use Rattle.grammar_laws.proofs.Nests.{shut-read, shut-keeps, shut-absent, nest-read, nest-keeps, nest-lifts}
+use Rattle.formula_syntax.specs.Points.{Word, Known, Grammar}
+use Rattle.formula_syntax.specs.Grammar.{leaf, name, sign, product_op, sum_op, word, Terminal, ALeaf, AProductOp, ASumOp, WordOf, meant, it, product, expr, deep_value, IsValue, IsExpr, primed, signed, args, atom, IsSign, IsAtom, flat_formula, formula, deep_formula, IsUnary, IsFormula}
+use Rattle.formula_syntax.specs.Reading.{read_by, read_product, read_args, opens_value, read_value, read_expr, read_sign, read_atom, starts_atom, starts_flat, opens_unary, read_flat, read_unary, read_formula}
+use Rattle.formula_syntax.proofs.Terminals.{word_code, word_set, word_in, some_word, passing-sign, over}
 
--- ---- a word of each kind
-
-abbrev pub sign_word : List ℕ → Word
-sign_word text = record { kind = kinds.Sign; text = text; place = record { file = 1; line = 1; at = 1 } }
-
-abbrev pub name_word : List ℕ → Word
-name_word text = record { kind = kinds.Name; text = text; place = record { file = 1; line = 1; at = 1 } }
-
-abbrev hash_word : List ℕ → Word
-hash_word text = record { kind = kinds.Hash; text = text; place = record { file = 1; line = 1; at = 1 } }
-
-abbrev spelled : Mark → Word
-spelled marks.If = sign_word (codes ":-")
-spelled marks.Dots = sign_word (codes "..")
-spelled marks.Stop = sign_word (codes ".")
-spelled marks.Comma = sign_word (codes ",")
-spelled marks.Semicolon = sign_word (codes ";")
-spelled marks.Open = sign_word (codes "(")
-spelled marks.Close = sign_word (codes ")")
-spelled marks.OpenBrace = sign_word (codes "{")
-spelled marks.CloseBrace = sign_word (codes "}")
-spelled marks.Prime = sign_word (codes "'")
-spelled marks.Tilde = sign_word (codes "~")
-spelled marks.Ampersand = sign_word (codes "&")
-spelled marks.Bar = sign_word (codes "|")
-spelled marks.RightArrow = sign_word (codes "->")
-spelled marks.LeftArrow = sign_word (codes "<-")
-spelled marks.BothArrow = sign_word (codes "<>")
-spelled marks.LessStar = sign_word (codes "<*")
-spelled marks.LessQuery = sign_word (codes "<?")
-spelled marks.LessColon = sign_word (codes "<:")
-spelled marks.LessLess = sign_word (codes "<<")
-spelled marks.LessEqual = sign_word (codes "<=")
-spelled marks.Less = sign_word (codes "<")
-spelled marks.GreaterStar = sign_word (codes ">*")
-spelled marks.GreaterQuery = sign_word (codes ">?")
-spelled marks.GreaterColon = sign_word (codes ">:")
-spelled marks.GreaterGreater = sign_word (codes ">>")
-spelled marks.GreaterEqual = sign_word (codes ">=")
-spelled marks.Greater = sign_word (codes ">")
-spelled marks.Equal = sign_word (codes "=")
-spelled marks.Unequal = sign_word (codes "!=")
-spelled marks.Plus = sign_word (codes "+")
-spelled marks.Minus = sign_word (codes "-")
-spelled marks.Star = sign_word (codes "*")
-spelled marks.Slash = sign_word (codes "/")
-spelled marks.Backslash = sign_word (codes "\\")
-spelled marks.Not = name_word (codes "not")
-spelled marks.Program = hash_word (codes "#program")
-spelled marks.Const = hash_word (codes "#const")
-spelled marks.Show = hash_word (codes "#show")
-
-spells : (mark : Mark) → sign mark (spelled mark) ≡ Some (λ known. (tt, known))
-spells marks.If = refl
-spells marks.Dots = refl
-spells marks.Stop = refl
-spells marks.Comma = refl
-spells marks.Semicolon = refl
-spells marks.Open = refl
-spells marks.Close = refl
-spells marks.OpenBrace = refl
-spells marks.CloseBrace = refl
-spells marks.Prime = refl
-spells marks.Tilde = refl
-spells marks.Ampersand = refl
-spells marks.Bar = refl
-spells marks.RightArrow = refl
-spells marks.LeftArrow = refl
-spells marks.BothArrow = refl
-spells marks.LessStar = refl
-spells marks.LessQuery = refl
-spells marks.LessColon = refl
-spells marks.LessLess = refl
-spells marks.LessEqual = refl
-spells marks.Less = refl
-spells marks.GreaterStar = refl
-spells marks.GreaterQuery = refl
-spells marks.GreaterColon = refl
-spells marks.GreaterGreater = refl
-spells marks.GreaterEqual = refl
-spells marks.Greater = refl
-spells marks.Equal = refl
-spells marks.Unequal = refl
-spells marks.Plus = refl
-spells marks.Minus = refl
-spells marks.Star = refl
-spells marks.Slash = refl
-spells marks.Backslash = refl
-spells marks.Not = refl
-spells marks.Program = refl
-spells marks.Const = refl
-spells marks.Show = refl
-
--- a word that is this sign
-pub passing-sign : (mark : Mark) → Passing (sign mark)
-passing-sign mark = record { word = spelled mark; make = λ known. (tt, known); gives = spells mark }
-
-pub passing-product_op : Passing product_op
-passing-product_op = record { word = sign_word (codes "*"); make = λ known. (products.Times, known); gives = refl }
-
-pub passing-sum_op : Passing sum_op
-passing-sum_op = record { word = sign_word (codes "+"); make = λ known. (sums.Plus, known); gives = refl }
-
-pub passing-pair_op : Passing pair_op
-passing-pair_op = record { word = sign_word (codes ">?"); make = λ known. (binaries.Until, known); gives = refl }
-
-pub passing-arrow_op : Passing arrow_op
-passing-arrow_op = record { word = sign_word (codes "->"); make = λ known. (binaries.Implies, known); gives = refl }
-
-pub passing-prefix_op : Passing prefix_op
-passing-prefix_op = record { word = sign_word (codes "~"); make = λ known. (unaries.Not, known); gives = refl }
-
-pub passing-name : Passing name
-passing-name = record { word = name_word (codes "a"); make = λ known. (codes "a", known); gives = refl }
-
-pub passing-const_op : Passing const_op
-passing-const_op = record { word = name_word (codes "true"); make = λ known. (consts.True, known); gives = refl }
-
-passing-leaf : Passing leaf
-passing-leaf = record { word = record { kind = kinds.Blank; text = codes "_"; place = record { file = 1; line = 1; at = 1 } }; make = new_var; gives = refl }
+abbrev bare : Words Word Known Terminal WordOf (Unit {0})
+bare = over nothing nothing [] [] (nothing-lies word_code) (nothing-lies word_code)
 
 -- ---- values
 
@@ -151,213 +32,209 @@ passing-leaf = record { word = record { kind = kinds.Blank; text = codes "_"; pl
 abbrev pub starts_value : Word → Bool
 starts_value = or_also (passes leaf) opens_value
 
-abbrev pub more_product : Word → Bool
-more_product = or_also nothing (or_also (passes product_op) nothing)
+abbrev pub value_set : List ℕ
+value_set = word_set ALeaf ++ begun_set bare deep_value
 
-abbrev pub more_sum : Word → Bool
-more_sum = or_also more_product (or_also (passes sum_op) more_product)
+pub value-lies : LiesIn word_code starts_value value_set
+value-lies = or-lies word_code (passes leaf) opens_value (word_set ALeaf) (begun_set bare deep_value) (word_in ALeaf) (begun-lies bare deep_value)
 
-pub minus-leaf_of : (s : Sense) → is_some (plain (is_sign marks.Minus s)) ≡ true → is_some (leaf_of s) ≡ false
-minus-leaf_of (Sign marks.Minus) is = refl
-minus-leaf_of _ is = absurd (false≢true is)
+abbrev pub value_words : Words Word Known Terminal WordOf (Unit {0})
+value_words = over starts_value nothing value_set [] value-lies (nothing-lies word_code)
 
-opening-leaf_of : (s : Sense) → is_some (plain (is_sign marks.Open s)) ≡ true → is_some (leaf_of s) ≡ false
-opening-leaf_of (Sign marks.Open) is = refl
-opening-leaf_of _ is = absurd (false≢true is)
+leaf-read : Read_by (One leaf) (one leaf) (passes leaf) nothing
+leaf-read = one-read leaf (some_word ALeaf)
 
-opening-minus_of : (s : Sense) → is_some (plain (is_sign marks.Open s)) ≡ true → is_some (plain (is_sign marks.Minus s)) ≡ false
-opening-minus_of (Sign marks.Open) is = refl
-opening-minus_of _ is = absurd (false≢true is)
+leaf-keeps : Keeps false (one leaf) (passes leaf)
+leaf-keeps = (one-steady leaf, one-takes leaf)
 
-sum-product_of : (s : Sense) → is_some (by_itself (sum_op_of s)) ≡ true → is_some (by_itself (product_op_of s)) ≡ false
-sum-product_of (Sign marks.Plus) is = refl
-sum-product_of (Sign marks.Minus) is = refl
-sum-product_of _ is = absurd (false≢true is)
+apart-value : Apart opens_value (passes leaf)
+apart-value = apart-by word_code opens_value (passes leaf) (begun_set bare deep_value) (word_set ALeaf) (begun-lies bare deep_value) (word_in ALeaf) refl
 
-close-more_of : (s : Sense) → is_some (plain (is_sign marks.Close s)) ≡ true → (is_some (by_itself (product_op_of s)) ≡ false) × (is_some (by_itself (sum_op_of s)) ≡ false)
-close-more_of (Sign marks.Close) is = (refl, refl)
-close-more_of _ is = absurd (false≢true is)
-
-comma-more_of : (s : Sense) → is_some (plain (is_sign marks.Comma s)) ≡ true → (is_some (by_itself (product_op_of s)) ≡ false) × (is_some (by_itself (sum_op_of s)) ≡ false)
-comma-more_of (Sign marks.Comma) is = (refl, refl)
-comma-more_of _ is = absurd (false≢true is)
-
--- two tests of which no word passes either
-not-product : (word : Word) → passes product_op word ≡ false → more_product word ≡ false
-not-product word a = rw a refl
-
-pub not-sum : (word : Word) → (passes product_op word ≡ false) × (passes sum_op word ≡ false) → more_sum word ≡ false
-not-sum word both_fail = rw (both_fail.0, both_fail.1) refl
-
-apart-opening : Apart (passes (sign marks.Open)) (passes (sign marks.Minus))
-apart-opening word is = opening-minus_of (sense word) is
-
-apart-opens : Apart opens_value (passes leaf)
-apart-opens word is = elim (cases_Bool (passes (sign marks.Minus) word)) [
-  | inl a ↦ minus-leaf_of (sense word) a
-  | inr b ↦ opening-leaf_of (sense word) (or-second (passes (sign marks.Minus) word) (passes (sign marks.Open) word) b is)
-] where
-  or-second : (a b : Bool) → a ≡ false → (a || b) ≡ true → b ≡ true
-  or-second true b isnt is' = absurd (false≢true (sym isnt))
-  or-second false b isnt is' = is'
-
-apart-sum : Apart (passes sum_op) more_product
-apart-sum word is = not-product word (sum-product_of (sense word) is)
-
-pub apart-close : Apart (passes (sign marks.Close)) more_sum
-apart-close word is = not-sum word (close-more_of (sense word) is)
-
-pub apart-comma : Apart (passes (sign marks.Comma)) more_sum
-apart-comma word is = not-sum word (comma-more_of (sense word) is)
-
--- what is read in brackets
-pub bracketed-known : {A : Type 0} (F : Grammar A) (read : Reader A) (starts more : Word → Bool) → Known_by F read starts more → Apart (passes (sign marks.Close)) more → Known_by (Bracketed F) (read_bracketed read) (passes (sign marks.Open)) nothing
-bracketed-known F read starts more k apart =
-    made-known between (Then (One (sign marks.Open)) (Then F (One (sign marks.Close)))) (both (one (sign marks.Open)) (both read (one (sign marks.Close)))) (passes (sign marks.Open)) nothing
-    (operand-known (sign marks.Open) (Then F (One (sign marks.Close))) (both read (one (sign marks.Close))) starts nothing (passing-sign marks.Open)
-    (then-known F (One (sign marks.Close)) read (one (sign marks.Close)) starts more (passes (sign marks.Close)) nothing k (one-known (sign marks.Close) (passing-sign marks.Close)) apart))
-
-pub bracketed-lifts : {A : Type 0} (F G : Grammar A) (read higher : Reader A) → Lifts F G read higher → ((from : Point) → Near higher from (higher from)) → Lifts (Bracketed F) (Bracketed G) (read_bracketed read) (read_bracketed higher)
-bracketed-lifts F G read higher l near =
-    made-lifts between (Then (One (sign marks.Open)) (Then F (One (sign marks.Close)))) (Then (One (sign marks.Open)) (Then G (One (sign marks.Close)))) (both (one (sign marks.Open)) (both read (one (sign marks.Close)))) (both (one (sign marks.Open)) (both higher (one (sign marks.Close))))
-    (operand-lifts (sign marks.Open) (Then F (One (sign marks.Close))) (Then G (One (sign marks.Close))) (both read (one (sign marks.Close))) (both higher (one (sign marks.Close))) (passing-sign marks.Open)
-    (then-lifts F G (One (sign marks.Close)) (One (sign marks.Close)) read higher (one (sign marks.Close)) (one (sign marks.Close)) l (one-lifts (sign marks.Close)) near))
-
-product-known : (F : Grammar Expr) (read : Reader Expr) → Known_by F read starts_value nothing → Known_by (ProductOf F) (read_product read) starts_value more_product
-product-known F read k = chain-known product_of product_op F read starts_value nothing passing-product_op k (λ word is. refl)
-
-sum-known : (F : Grammar Expr) (read : Reader Expr) → Known_by F read starts_value more_product → Known_by (SumOf F) (read_sum read) starts_value more_sum
-sum-known F read k = chain-known sum_of sum_op F read starts_value more_product passing-sum_op k apart-sum
-
-leaf-known : Known_by (One leaf) (one leaf) (passes leaf) nothing
-leaf-known = one-known leaf passing-leaf
-
--- a value at one level more
-deeper-known : (F : Grammar Expr) (read : Reader Expr) → Known_by F read starts_value nothing → Known_by (Either (One leaf) (Either (Made negative_of (Then (One (sign marks.Minus)) F)) (Bracketed (SumOf (ProductOf F))))) (either (passes leaf) (one leaf) (either (passes (sign marks.Minus)) (read_negative read) (read_bracketed (read_sum (read_product read))))) starts_value nothing
-deeper-known F read k =
-    let negative = made-known negative_of (Then (One (sign marks.Minus)) F) (both (one (sign marks.Minus)) read) (passes (sign marks.Minus)) nothing (operand-known (sign marks.Minus) F read starts_value nothing (passing-sign marks.Minus) k) in
-    let brackets = bracketed-known (SumOf (ProductOf F)) (read_sum (read_product read)) starts_value more_sum (sum-known (ProductOf F) (read_product read) (product-known F read k)) apart-close in
-    either-known (One leaf) (Either (Made negative_of (Then (One (sign marks.Minus)) F)) (Bracketed (SumOf (ProductOf F)))) (one leaf) (either (passes (sign marks.Minus)) (read_negative read) (read_bracketed (read_sum (read_product read)))) (passes leaf) nothing opens_value nothing leaf-known
-    (either-known (Made negative_of (Then (One (sign marks.Minus)) F)) (Bracketed (SumOf (ProductOf F))) (read_negative read) (read_bracketed (read_sum (read_product read))) (passes (sign marks.Minus)) nothing (passes (sign marks.Open)) nothing negative brackets apart-opening)
-    apart-opens
-
-pub or-left : (a b : Bool) → a ≡ true → (a || b) ≡ true
-or-left a b is = rw is refl
-
-pub value-known : (n : ℕ) → Known_by (IsValue n) (read_value n) starts_value nothing
+pub value-read : (n : ℕ) → Read_by (IsValue n) (read_value n) starts_value nothing
 unfolding IsValue read_value
-value-known zero = record {
-  reads = flat-reads (One leaf) (one leaf) nothing (passes leaf) opens_value leaf-known.reads leaf-known.begun;
-  begun = wider-starts (One leaf) (passes leaf) starts_value leaf-known.begun (λ word is. or-left (passes leaf word) (opens_value word) is);
-  steady = flat-steady (one leaf) (passes leaf) opens_value leaf-known.steady;
-}
-value-known (suc n) = deeper-known (IsValue n) (read_value n) (value-known n)
+value-read zero = shut-read (One leaf) (one leaf) (passes leaf) nothing opens_value nothing leaf-read (λ w is. is)
+value-read (suc n) =
+    nest-read (One leaf) (one leaf) (passes leaf) nothing opens_value nothing leaf-read (meant (IsValue n) deep_value) (read_by (read_value n) deep_value) (gone_on_by value_words deep_value)
+    (reads-it value_words (λ i. IsValue n) (λ i. read_value n) (λ i. value-read n) deep_value refl) apart-value (λ w is. is)
 
-pub expr-known : (n : ℕ) → Known_by (IsExpr n) (read_expr n) starts_value more_sum
-expr-known n = sum-known (ProductOf (IsValue n)) (read_product (read_value n)) (product-known (IsValue n) (read_value n) (value-known n))
+value-keeps : (n : ℕ) → Keeps false (read_value n) starts_value
+unfolding IsValue read_value
+value-keeps zero = shut-keeps (One leaf) (one leaf) (passes leaf) nothing opens_value nothing leaf-read leaf-keeps
+value-keeps (suc n) =
+    nest-keeps (One leaf) (one leaf) (passes leaf) nothing opens_value nothing leaf-read (meant (IsValue n) deep_value) (read_by (read_value n) deep_value) (gone_on_by value_words deep_value)
+    (reads-it value_words (λ i. IsValue n) (λ i. read_value n) (λ i. value-read n) deep_value refl) leaf-keeps
+    (keeps-it value_words (λ i. IsValue n) (λ i. read_value n) (λ i. value-read n) (λ i. value-keeps n) deep_value refl)
 
--- ---- one level more
-
-pub none-of : {A : Type 0} (o : Option A) → is_some o ≡ false → o ≡ None
-none-of None is = refl
-none-of (Some a) is = absurd (false≢true (sym is))
-
-pub record SomeOf {A : Type 0} (o : Option A) : Type 0 where
-  pub value : A
-  pub is : o ≡ Some value
-
-some-of : {A : Type 0} (o : Option A) → is_some o ≡ true → SomeOf o
-some-of None is = absurd (false≢true is)
-some-of (Some a) is = record { value = a; is = refl }
-
--- an operator alone, before what can't be read of no words
-op-alone : {A B : Type 0} (op : Word → Option (Known → A × Known)) (read : Reader B) (known : Known) (word : Word) → passes op word ≡ true → ((later : Known) → read (at later []) ≡ Stuck Unexpected []) → both (one op) read (at known (word ∷ [])) ≡ Stuck Unexpected []
-op-alone op read known word is empty = let s = some-of (op word) is in rw (s.is, empty (s.value known).1) refl
-
-pub op-absent : {A B : Type 0} (op : Word → Option (Known → A × Known)) (read : Reader B) (known : Known) (words : List Word) → begins (passes op) words ≡ false → both (one op) read (at known words) ≡ Stuck Unexpected words
-op-absent op read known [] is = refl
-op-absent op read known (word ∷ words) is = rw (none-of (op word) is) refl
-
--- one of two operators, each before what can't be read of no words
-pub ops-alone : {A B C : Type 0} (op : Word → Option (Known → A × Known)) (op' : Word → Option (Known → B × Known)) (make : A × C → C) (read : Reader C) (next : Reader C) (known : Known) (word : Word) → or_also (passes op) (passes op') word ≡ true → ((later : Known) → read (at later []) ≡ Stuck Unexpected []) → ((is : passes op' word ≡ true) → next (at known (word ∷ [])) ≡ Stuck Unexpected []) → either (passes op) (made make (both (one op) read)) next (at known (word ∷ [])) ≡ Stuck Unexpected []
-ops-alone op op' make read next known word is empty later = elim (cases_Bool (passes op word)) [
-  | inl a ↦ rw a (ops-first a)
-  | inr b ↦ rw b (later (or-second (passes op word) (passes op' word) b is))
-] where
-  or-second : (a b : Bool) → a ≡ false → (a || b) ≡ true → b ≡ true
-  or-second true b isnt is' = absurd (false≢true (sym isnt))
-  or-second false b isnt is' = is'
-
-  ops-first : passes op word ≡ true → made make (both (one op) read) (at known (word ∷ [])) ≡ Stuck Unexpected []
-  ops-first a = rw (op-alone op read known word a empty) refl
-
-pub not-first : (a b : Word → Bool) (words : List Word) → begins (or_also a b) words ≡ false → begins a words ≡ false
-not-first a b [] is = refl
-not-first a b (word ∷ words) is = elim (a word) as (λ (x : Bool). (x || b word) ≡ false → x ≡ false) [ true ↦ λ e. e | false ↦ λ e. refl ] is
-
-pub not-second : (a b : Word → Bool) (words : List Word) → begins (or_also a b) words ≡ false → begins b words ≡ false
-not-second a b [] is = refl
-not-second a b (word ∷ words) is = elim (a word) as (λ (x : Bool). (x || b word) ≡ false → b word ≡ false) [ true ↦ λ e. absurd (false≢true (sym e)) | false ↦ λ e. e ] is
-
-value-empty : (n : ℕ) (known : Known) → read_value n (at known []) ≡ Stuck Unexpected []
+value-absent : (known : Known) (words : List Word) → begins starts_value words ≡ false → read_value zero (at known words) ≡ Stuck Unexpected words
 unfolding read_value
-value-empty zero known = refl
-value-empty (suc n) known = refl
+value-absent known words is = shut-absent (one leaf) (passes leaf) opens_value known words is
 
-expr-empty : (n : ℕ) (known : Known) → read_expr n (at known []) ≡ Stuck Unexpected []
-expr-empty n known = rw (value-empty n known) refl
-
--- what is read of a word that opens a level
-pub bracketed-alone : {A : Type 0} (read : Reader A) (known : Known) (word : Word) → passes (sign marks.Open) word ≡ true → ((later : Known) → read (at later []) ≡ Stuck Unexpected []) → read_bracketed read (at known (word ∷ [])) ≡ Stuck Unexpected []
-bracketed-alone read known word is empty = rw (op-alone (sign marks.Open) (both read (one (sign marks.Close))) known word is (λ later. rw (empty later) refl)) refl
-
-pub bracketed-absent : {A : Type 0} (read : Reader A) (known : Known) (words : List Word) → begins (passes (sign marks.Open)) words ≡ false → read_bracketed read (at known words) ≡ Stuck Unexpected words
-bracketed-absent read known words is = rw (op-absent (sign marks.Open) (both read (one (sign marks.Close))) known words is) refl
-
-deeper-alone : (read : Reader Expr) → ((later : Known) → read (at later []) ≡ Stuck Unexpected []) → ((later : Known) → read_sum (read_product read) (at later []) ≡ Stuck Unexpected []) → (known : Known) (word : Word) → opens_value word ≡ true → either (passes (sign marks.Minus)) (read_negative read) (read_bracketed (read_sum (read_product read))) (at known (word ∷ [])) ≡ Stuck Unexpected []
-deeper-alone read empty empty' known word is =
-    ops-alone (sign marks.Minus) (sign marks.Open) negative_of read (read_bracketed (read_sum (read_product read))) known word is empty (λ a. bracketed-alone (read_sum (read_product read)) known word a empty')
-
-deeper-absent : (read : Reader Expr) (known : Known) (words : List Word) → begins opens_value words ≡ false → either (passes (sign marks.Minus)) (read_negative read) (read_bracketed (read_sum (read_product read))) (at known words) ≡ Stuck Unexpected words
-deeper-absent read known words is =
-    rw (not-first (passes (sign marks.Minus)) (passes (sign marks.Open)) words is) (bracketed-absent (read_sum (read_product read)) known words (not-second (passes (sign marks.Minus)) (passes (sign marks.Open)) words is))
-
-product-lifts : (F G : Grammar Expr) (read higher : Reader Expr) → Lifts F G read higher → Known_by G higher starts_value nothing → Lifts (ProductOf F) (ProductOf G) (read_product read) (read_product higher)
-product-lifts F G read higher l k = chain-lifts product_of product_op F G read higher starts_value nothing passing-product_op l k
-
-sum-lifts : (F G : Grammar Expr) (read higher : Reader Expr) → Lifts F G read higher → Known_by G higher starts_value more_product → Lifts (SumOf F) (SumOf G) (read_sum read) (read_sum higher)
-sum-lifts F G read higher l k = chain-lifts sum_of sum_op F G read higher starts_value more_product passing-sum_op l k
-
-chains-lift : (F G : Grammar Expr) (read higher : Reader Expr) → Lifts F G read higher → Known_by G higher starts_value nothing → Lifts (SumOf (ProductOf F)) (SumOf (ProductOf G)) (read_sum (read_product read)) (read_sum (read_product higher))
-chains-lift F G read higher l k = sum-lifts (ProductOf F) (ProductOf G) (read_product read) (read_product higher) (product-lifts F G read higher l k) (product-known G higher k)
-
-deeper-lifts : (F G : Grammar Expr) (read higher : Reader Expr) → Lifts F G read higher → Known_by G higher starts_value nothing → Lifts (Either (One leaf) (Either (Made negative_of (Then (One (sign marks.Minus)) F)) (Bracketed (SumOf (ProductOf F))))) (Either (One leaf) (Either (Made negative_of (Then (One (sign marks.Minus)) G)) (Bracketed (SumOf (ProductOf G))))) (either (passes leaf) (one leaf) (either (passes (sign marks.Minus)) (read_negative read) (read_bracketed (read_sum (read_product read))))) (either (passes leaf) (one leaf) (either (passes (sign marks.Minus)) (read_negative higher) (read_bracketed (read_sum (read_product higher)))))
-deeper-lifts F G read higher l k =
-    either-lifts (One leaf) (One leaf) (Either (Made negative_of (Then (One (sign marks.Minus)) F)) (Bracketed (SumOf (ProductOf F)))) (Either (Made negative_of (Then (One (sign marks.Minus)) G)) (Bracketed (SumOf (ProductOf G)))) (passes leaf) (one leaf) (one leaf)
-    (either (passes (sign marks.Minus)) (read_negative read) (read_bracketed (read_sum (read_product read)))) (either (passes (sign marks.Minus)) (read_negative higher) (read_bracketed (read_sum (read_product higher)))) (one-lifts leaf)
-    (either-lifts (Made negative_of (Then (One (sign marks.Minus)) F)) (Made negative_of (Then (One (sign marks.Minus)) G)) (Bracketed (SumOf (ProductOf F))) (Bracketed (SumOf (ProductOf G))) (passes (sign marks.Minus)) (read_negative read) (read_negative higher) (read_bracketed (read_sum (read_product read))) (read_bracketed (read_sum (read_product higher)))
-    (made-lifts negative_of (Then (One (sign marks.Minus)) F) (Then (One (sign marks.Minus)) G) (both (one (sign marks.Minus)) read) (both (one (sign marks.Minus)) higher) (operand-lifts (sign marks.Minus) F G read higher (passing-sign marks.Minus) l))
-    (bracketed-lifts (SumOf (ProductOf F)) (SumOf (ProductOf G)) (read_sum (read_product read)) (read_sum (read_product higher)) (chains-lift F G read higher l k) (sum-known (ProductOf G) (read_product higher) (product-known G higher k)).reads.near))
-
-pub value-lifts : (n : ℕ) → Lifts (IsValue n) (IsValue (suc n)) (read_value n) (read_value (suc n))
+value-lifts : (n : ℕ) → Lifts (IsValue n) (IsValue (suc n)) (read_value n) (read_value (suc n))
 unfolding IsValue read_value
-value-lifts zero = record {
-  raises = flat-raises (passes leaf) opens_value (one leaf) (one leaf) (either (passes (sign marks.Minus)) (read_negative (read_value zero)) (read_bracketed (read_sum (read_product (read_value zero))))) (one-lifts leaf).raises
-      (deeper-absent (read_value zero)) (deeper-alone (read_value zero) (value-empty zero) (expr-empty zero));
-  wider = λ from thing to reads. inl reads;
-}
-value-lifts (suc n) = deeper-lifts (IsValue n) (IsValue (suc n)) (read_value n) (read_value (suc n)) (value-lifts n) (value-known (suc n))
+value-lifts zero =
+    nest-lifts (One leaf) (One leaf) (meant (IsValue zero) deep_value) (one leaf) (one leaf) (read_by (read_value zero) deep_value) (passes leaf) opens_value (one-lifts leaf)
+    (λ known words is. absent-it word (λ i. starts_value) (λ i. read_value zero) known words (λ i none. value-absent known words none) deep_value is)
+    (λ known w is. alone-it word (λ i. starts_value) (λ i. read_value zero) (λ i later. value-absent later [] refl) known w deep_value refl is)
+value-lifts (suc n) =
+    either-lifts (One leaf) (One leaf) (meant (IsValue n) deep_value) (meant (IsValue (suc n)) deep_value) (passes leaf) (one leaf) (one leaf) (read_by (read_value n) deep_value) (read_by (read_value (suc n)) deep_value) (one-lifts leaf)
+    (lifts-it value_words (λ i. IsValue n) (λ i. IsValue (suc n)) (λ i. read_value n) (λ i. read_value (suc n)) (λ i. value-lifts n) (λ i. value-read (suc n)) deep_value refl)
+
+-- ---- expressions
+
+-- parts of an expression, by themselves
+pub products-read : (n : ℕ) → Opened_by (Each (Then (One product_op) (IsValue n))) (each (passes product_op) (both (one product_op) (read_value n))) (passes product_op) (or_also (passes product_op) nothing)
+products-read n = reads-it value_words (λ i. IsValue n) (λ i. read_value n) (λ i. value-read n) (many (and (terminal AProductOp) it)) refl
+
+pub sums-read : (n : ℕ) → Opened_by (Each (Then (One sum_op) (meant (IsValue n) (product it)))) (each (passes sum_op) (both (one sum_op) (read_product (read_value n)))) (passes sum_op) (or_also (passes sum_op) (gone_on_by value_words (product it)))
+sums-read n = reads-it value_words (λ i. IsValue n) (λ i. read_value n) (λ i. value-read n) (many (and (terminal ASumOp) (product it))) refl
+
+abbrev pub more_expr : Word → Bool
+more_expr = gone_on_by value_words (expr it)
+
+pub expr-read : (n : ℕ) → Read_by (IsExpr n) (read_expr n) starts_value more_expr
+expr-read n = reads-it value_words (λ i. IsValue n) (λ i. read_value n) (λ i. value-read n) (expr it) refl
+
+expr-keeps : (n : ℕ) → Keeps false (read_expr n) starts_value
+expr-keeps n = keeps-it value_words (λ i. IsValue n) (λ i. read_value n) (λ i. value-read n) (λ i. value-keeps n) (expr it) refl
+
+pub expr-steady : (n : ℕ) → Steady (read_expr n)
+expr-steady n = (expr-keeps n).0
 
 pub expr-lifts : (n : ℕ) → Lifts (IsExpr n) (IsExpr (suc n)) (read_expr n) (read_expr (suc n))
-expr-lifts n = chains-lift (IsValue n) (IsValue (suc n)) (read_value n) (read_value (suc n)) (value-lifts n) (value-known (suc n))
+expr-lifts n = lifts-it value_words (λ i. IsValue n) (λ i. IsValue (suc n)) (λ i. read_value n) (λ i. read_value (suc n)) (λ i. value-lifts n) (λ i. value-read (suc n)) (expr it) refl
 
-pub expr-family : Family IsExpr read_expr more_sum
+pub expr-family : Family IsExpr read_expr more_expr
 expr-family = record {
-  reads = λ n. (expr-known n).reads;
+  reads = λ n. (expr-read n).reads;
   raises = λ n. (expr-lifts n).raises;
   wider = λ n. (expr-lifts n).wider;
 }
 
--- the operands of a sum behind its first one
-pub sums-optional : (n : ℕ) → Optional_by (Each (Then (One sum_op) (ProductOf (IsValue n)))) (each (passes sum_op) (both (one sum_op) (read_product (read_value n)))) (passes sum_op) (or_also (passes sum_op) more_product)
-sums-optional n = operands-optional sum_op (ProductOf (IsValue n)) (read_product (read_value n)) starts_value more_product passing-sum_op (product-known (IsValue n) (read_value n) (value-known n)) apart-sum
+-- ---- atoms
+
+-- productions of signs, of which no expression is given
+abbrev pub leaf_words : Words Word Known Terminal WordOf (Unit {0})
+leaf_words = over (passes leaf) nothing (word_set ALeaf) [] (word_in ALeaf) (nothing-lies word_code)
+
+pub prime-read : Opened_by (Maybe (One (sign marks.Prime))) (maybe (passes (sign marks.Prime)) (one (sign marks.Prime))) (passes (sign marks.Prime)) (or_also (passes (sign marks.Prime)) nothing)
+prime-read = maybe-opened (One (sign marks.Prime)) (one (sign marks.Prime)) (passes (sign marks.Prime)) nothing (one-read (sign marks.Prime) (passing-sign marks.Prime))
+
+pub primed-read : Read_by (meant (One leaf) primed) (read_by (one leaf) primed) (or_also (passes (sign marks.Prime)) (passes name)) (gone_on_by leaf_words (primed {R = Expr}))
+primed-read = reads-it leaf_words (λ i. One leaf) (λ i. one leaf) (λ i. leaf-read) primed refl
+
+abbrev pub more_sign : Word → Bool
+more_sign = gone_on_by leaf_words (signed {R = Expr})
+
+pub sign-read : Read_by IsSign read_sign starts_atom more_sign
+sign-read = reads-it leaf_words (λ i. One leaf) (λ i. one leaf) (λ i. leaf-read) signed refl
+
+pub sign-lifts : Lifts IsSign IsSign read_sign read_sign
+sign-lifts = lifts-it leaf_words (λ i. One leaf) (λ i. One leaf) (λ i. one leaf) (λ i. one leaf) (λ i. one-lifts leaf) (λ i. leaf-read) signed refl
+
+abbrev pub expr_words : Words Word Known Terminal WordOf (Unit {0})
+expr_words = over starts_value more_expr value_set (more_set value_words (expr it)) value-lies (more-lies value_words (expr it))
+
+pub args-read : (n : ℕ) → Opened_by (Maybe (meant (IsExpr n) (args it))) (maybe (passes (sign marks.Open)) (read_args (read_expr n))) (passes (sign marks.Open)) (or_also (passes (sign marks.Open)) nothing)
+args-read n = reads-it expr_words (λ i. IsExpr n) (λ i. read_expr n) (λ i. expr-read n) (perhaps (args it)) refl
+
+abbrev pub more_atom : Word → Bool
+more_atom = gone_on_by expr_words (atom it)
+
+pub atom-read : (n : ℕ) → Read_by (IsAtom n) (read_atom n) starts_atom more_atom
+atom-read n = reads-it expr_words (λ i. IsExpr n) (λ i. read_expr n) (λ i. expr-read n) (atom it) refl
+
+pub atom-lifts : (n : ℕ) → Lifts (IsAtom n) (IsAtom (suc n)) (read_atom n) (read_atom (suc n))
+atom-lifts n = lifts-it expr_words (λ i. IsExpr n) (λ i. IsExpr (suc n)) (λ i. read_expr n) (λ i. read_expr (suc n)) (λ i. expr-lifts n) (λ i. expr-read (suc n)) (atom it) refl
+
+-- ---- unary formulas
+
+abbrev IsFlat : ℕ → Grammar Formula
+IsFlat n = meant (IsExpr n) flat_formula
+
+abbrev pub more_flat : Word → Bool
+more_flat = gone_on_by expr_words flat_formula
+
+flat-read : (n : ℕ) → Read_by (IsFlat n) (read_flat n) starts_flat more_flat
+flat-read n = reads-it expr_words (λ i. IsExpr n) (λ i. read_expr n) (λ i. expr-read n) flat_formula refl
+
+flat-keeps : (n : ℕ) → Keeps false (read_flat n) starts_flat
+flat-keeps n = keeps-it expr_words (λ i. IsExpr n) (λ i. read_expr n) (λ i. expr-read n) (λ i. expr-keeps n) flat_formula refl
+
+flat-lifts : (n : ℕ) → Lifts (IsFlat n) (IsFlat (suc n)) (read_flat n) (read_flat (suc n))
+flat-lifts n = lifts-it expr_words (λ i. IsExpr n) (λ i. IsExpr (suc n)) (λ i. read_expr n) (λ i. read_expr (suc n)) (λ i. expr-lifts n) (λ i. expr-read (suc n)) flat_formula refl
+
+abbrev pub starts_unary : Word → Bool
+starts_unary = or_also starts_flat opens_unary
+
+abbrev pub unary_set : List ℕ
+unary_set = begun_set bare flat_formula ++ begun_set bare deep_formula
+
+pub unary-lies : LiesIn word_code starts_unary unary_set
+unary-lies = or-lies word_code starts_flat opens_unary (begun_set bare flat_formula) (begun_set bare deep_formula) (begun-lies bare flat_formula) (begun-lies bare deep_formula)
+
+abbrev pub unary_words : Words Word Known Terminal WordOf (Unit {0})
+unary_words = over starts_unary more_flat unary_set (more_set expr_words flat_formula) unary-lies (more-lies expr_words flat_formula)
+
+apart-unary : Apart opens_unary starts_flat
+apart-unary = apart-by word_code opens_unary starts_flat (begun_set bare deep_formula) (begun_set bare flat_formula) (begun-lies bare deep_formula) (begun-lies bare flat_formula) refl
+
+-- what goes on with what opens a level goes on with what opens none
+once : (a : Bool) → (a || (a || false)) ≡ true → a ≡ true
+once true is = refl
+once false is = is
+
+pub unary-read : (n : ℕ) → Read_by (IsUnary n) (read_unary n) starts_unary more_flat
+unfolding IsUnary read_unary
+unary-read zero = shut-read (IsFlat zero) (read_flat zero) starts_flat more_flat opens_unary more_flat (flat-read zero) (λ w is. is)
+unary-read (suc n) =
+    nest-read (IsFlat (suc n)) (read_flat (suc n)) starts_flat more_flat opens_unary more_flat (flat-read (suc n)) (meant (IsUnary n) deep_formula) (read_by (read_unary n) deep_formula) (gone_on_by unary_words deep_formula)
+    (reads-it unary_words (λ i. IsUnary n) (λ i. read_unary n) (λ i. unary-read n) deep_formula refl) apart-unary (λ w is. once (more_flat w) is)
+
+unary-keeps : (n : ℕ) → Keeps false (read_unary n) starts_unary
+unfolding IsUnary read_unary
+unary-keeps zero = shut-keeps (IsFlat zero) (read_flat zero) starts_flat more_flat opens_unary more_flat (flat-read zero) (flat-keeps zero)
+unary-keeps (suc n) =
+    nest-keeps (IsFlat (suc n)) (read_flat (suc n)) starts_flat more_flat opens_unary more_flat (flat-read (suc n)) (meant (IsUnary n) deep_formula) (read_by (read_unary n) deep_formula) (gone_on_by unary_words deep_formula)
+    (reads-it unary_words (λ i. IsUnary n) (λ i. read_unary n) (λ i. unary-read n) deep_formula refl) (flat-keeps (suc n))
+    (keeps-it unary_words (λ i. IsUnary n) (λ i. read_unary n) (λ i. unary-read n) (λ i. unary-keeps n) deep_formula refl)
+
+unary-absent : (known : Known) (words : List Word) → begins starts_unary words ≡ false → read_unary zero (at known words) ≡ Stuck Unexpected words
+unfolding read_unary
+unary-absent known words is = shut-absent (read_flat zero) starts_flat opens_unary known words is
+
+unary-lifts : (n : ℕ) → Lifts (IsUnary n) (IsUnary (suc n)) (read_unary n) (read_unary (suc n))
+unfolding IsUnary read_unary
+unary-lifts zero =
+    nest-lifts (IsFlat zero) (IsFlat (suc zero)) (meant (IsUnary zero) deep_formula) (read_flat zero) (read_flat (suc zero)) (read_by (read_unary zero) deep_formula) starts_flat opens_unary (flat-lifts zero)
+    (λ known words is. absent-it word (λ i. starts_unary) (λ i. read_unary zero) known words (λ i none. unary-absent known words none) deep_formula is)
+    (λ known w is. alone-it word (λ i. starts_unary) (λ i. read_unary zero) (λ i later. unary-absent later [] refl) known w deep_formula refl is)
+unary-lifts (suc n) =
+    either-lifts (IsFlat (suc n)) (IsFlat (suc (suc n))) (meant (IsUnary n) deep_formula) (meant (IsUnary (suc n)) deep_formula) starts_flat (read_flat (suc n)) (read_flat (suc (suc n))) (read_by (read_unary n) deep_formula) (read_by (read_unary (suc n)) deep_formula) (flat-lifts (suc n))
+    (lifts-it unary_words (λ i. IsUnary n) (λ i. IsUnary (suc n)) (λ i. read_unary n) (λ i. read_unary (suc n)) (λ i. unary-lifts n) (λ i. unary-read (suc n)) deep_formula refl)
+
+-- ---- formulas
+
+abbrev pub more_formula : Word → Bool
+more_formula = gone_on_by unary_words (formula it)
+
+abbrev pub more_formula_set : List ℕ
+more_formula_set = more_set unary_words (formula it)
+
+pub more_formula-lies : LiesIn word_code more_formula more_formula_set
+more_formula-lies = more-lies unary_words (formula it)
+
+pub formula-read : (n : ℕ) → Read_by (IsFormula n) (read_formula n) starts_unary more_formula
+formula-read n = reads-it unary_words (λ i. IsUnary n) (λ i. read_unary n) (λ i. unary-read n) (formula it) refl
+
+pub formula-steady : (n : ℕ) → Steady (read_formula n)
+formula-steady n = (keeps-it unary_words (λ i. IsUnary n) (λ i. read_unary n) (λ i. unary-read n) (λ i. unary-keeps n) (formula it) refl).0
+
+pub formula-lifts : (n : ℕ) → Lifts (IsFormula n) (IsFormula (suc n)) (read_formula n) (read_formula (suc n))
+formula-lifts n = lifts-it unary_words (λ i. IsUnary n) (λ i. IsUnary (suc n)) (λ i. read_unary n) (λ i. read_unary (suc n)) (λ i. unary-lifts n) (λ i. unary-read (suc n)) (formula it) refl
+
+pub formula-family : Family IsFormula read_formula more_formula
+formula-family = record {
+  reads = λ n. (formula-read n).reads;
+  raises = λ n. (formula-lifts n).raises;
+  wider = λ n. (formula-lifts n).wider;
+}

@@ -3,7 +3,6 @@ pub mod Chains
 pub mod Choices
 pub mod Digits
 pub mod Families
-pub mod FormulaFamilies
 pub mod Gathers
 pub mod Indexed
 pub mod Manies
@@ -11,3 +10,4 @@ pub mod Onwards
 pub mod Places
 pub mod Seen
 pub mod Stood
+pub mod Terminals

@@ -17,8 +17,7 @@ use Rattle.grammar_laws.proofs.Exclusive.{outcome-same, one_outcome}
 use Rattle.formula_syntax.proofs.Answered.{one_answer}
 use Rattle.grammar_laws.proofs.Steady.{Steady}
 use Rattle.grammar_laws.proofs.Outcomes.{Family, stands, syntax, too_deep, one_thing}
-use Rattle.formula_syntax.proofs.Families.{more_sum, expr-known, expr-family}
-use Rattle.formula_syntax.proofs.FormulaFamilies.{more_formula, formula-known, formula-family}
+use Rattle.formula_syntax.proofs.Families.{more_expr, expr-steady, expr-family, more_formula, formula-steady, formula-family}
 
 module _ {A : Type 0} (F : ℕ → Grammar A) (read : ℕ → Reader A) (more : Word → Bool) (family : Family F read more) (steady : (n : ℕ) → Steady (read n)) where
   pub stood : (n : ℕ) (old new : Names) (tokens : List Token) (place : ℕ) (result : Result (A × ℕ) FormulaFault) → IfOk result (λ r. ReadUpTo (read n) old new tokens place r.0 r.1) → IfOk result (λ r. StandsUpTo F n old new tokens place r.0 r.1)
@@ -44,25 +43,19 @@ got-one a b later last e =
     (x, ap (λ (p : Point). p.known) y)
 
 pub one_expr : OneExpr
-one_expr m n known later last words a b p q = got-one a b later last (one_thing IsExpr read_expr more_sum expr-family m n (at known words) a b later last p q)
+one_expr m n known later last words a b p q = got-one a b later last (one_thing IsExpr read_expr more_expr expr-family m n (at known words) a b later last p q)
 
 pub one_formula : OneFormula
 one_formula m n known later last words a b p q = got-one a b later last (one_thing IsFormula read_formula more_formula formula-family m n (at known words) a b later last p q)
 
-pub steady_expr : (n : ℕ) → Steady (read_expr n)
-steady_expr n = (expr-known n).steady
-
-pub steady_formula : (n : ℕ) → Steady (read_formula n)
-steady_formula n = (formula-known n).steady
-
 pub expr-outcome : OneOutcome IsExpr
-expr-outcome = one_outcome IsExpr read_expr more_sum expr-family steady_expr
+expr-outcome = one_outcome IsExpr read_expr more_expr expr-family expr-steady
 
 pub formula-outcome : OneOutcome IsFormula
-formula-outcome = one_outcome IsFormula read_formula more_formula formula-family steady_formula
+formula-outcome = one_outcome IsFormula read_formula more_formula formula-family formula-steady
 
 pub expr-answer : OneAnswer IsExpr
-expr-answer = one_answer IsExpr (outcome-same IsExpr read_expr more_sum expr-family steady_expr)
+expr-answer = one_answer IsExpr (outcome-same IsExpr read_expr more_expr expr-family expr-steady)
 
 pub formula-answer : OneAnswer IsFormula
-formula-answer = one_answer IsFormula (outcome-same IsFormula read_formula more_formula formula-family steady_formula)
+formula-answer = one_answer IsFormula (outcome-same IsFormula read_formula more_formula formula-family formula-steady)

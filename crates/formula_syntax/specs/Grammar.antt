@@ -27,7 +27,8 @@ use Rattle.formula_syntax.specs.declared.marks.Mark.{Mark}
 use Rattle.formula_syntax.specs.declared.marks.Mark.TheVariants as marks
 use Rattle.formula_syntax.specs.Points.{Word, Known, Grammar}
 use Rattle.formula_syntax.specs.Senses.{Sense, Name, Variable, Blank, Number, Str, Sign, sense, number_of, string_of}
-use Rattle.grammar_laws.specs.Shapes.{One, Then, Made, Either, Each, AtMost, Maybe}
+use Rattle.grammar_laws.specs.Shapes.{One, Either}
+use Rattle.grammar_laws.specs.Productions.{Production, terminal, given, made_of, and, and_on, and_from, or, many, few, perhaps, means}
 
 -- ---- words
 
@@ -90,7 +91,7 @@ is_sign mark said = false
 abbrev pub sign : Mark → Word → Option (Known → Unit {0} × Known)
 sign mark word = plain (is_sign mark (sense word))
 
--- ---- expressions
+-- ---- words of expressions
 
 -- a name or a string, which is numbered where it is seen first
 abbrev pub known_term : Term → Known → Expr × Known
@@ -141,44 +142,7 @@ sum_op_of said = None
 abbrev pub sum_op : Word → Option (Known → SumOp × Known)
 sum_op word = by_itself (sum_op_of (sense word))
 
--- a chain of one operand is this operand
-abbrev pub product_of : Expr × List (ProductOp × Expr) → Expr
-product_of (first, []) = first
-product_of (first, next ∷ more) = exprs.Product first (next ∷ more)
-
-abbrev pub sum_of : Expr × List (SumOp × Expr) → Expr
-sum_of (first, []) = first
-sum_of (first, next ∷ more) = exprs.Sum first (next ∷ more)
-
--- what stands between two words
-abbrev pub between : {A B C : Type 0} → A × (B × C) → B
-between three = three.1.0
-
-abbrev pub negative_of : {A : Type 0} → A × Expr → Expr
-negative_of pair = exprs.Minus pair.1
-
--- a word, a thing and a word
-abbrev pub Bracketed : {A : Type 0} → Grammar A → Grammar A
-Bracketed F = Made between (Then (One (sign marks.Open)) (Then F (One (sign marks.Close))))
-
--- product = value { ("*" | "/" | "\\") value }
-abbrev pub ProductOf : Grammar Expr → Grammar Expr
-ProductOf F = Made product_of (Then F (Each (Then (One product_op) F)))
-
--- sum = product { ("+" | "-") product }
-abbrev pub SumOf : Grammar Expr → Grammar Expr
-SumOf F = Made sum_of (Then F (Each (Then (One sum_op) F)))
-
--- value = number | name | string | variable | "_" | "-" value | "(" expr ")", where the last two open a level
-unfoldable pub IsValue : ℕ → Grammar Expr
-IsValue zero = One leaf
-IsValue (suc levels) = Either (One leaf) (Either (Made negative_of (Then (One (sign marks.Minus)) (IsValue levels))) (Bracketed (SumOf (ProductOf (IsValue levels)))))
-
--- expr = sum, where at most so many levels are open at once
-abbrev pub IsExpr : ℕ → Grammar Expr
-IsExpr levels = SumOf (ProductOf (IsValue levels))
-
--- ---- atoms
+-- ---- words of atoms and formulas
 
 abbrev pub name_of : Sense → Option (List ℕ)
 name_of (Name text) = Some text
@@ -186,59 +150,6 @@ name_of said = None
 
 abbrev pub name : Word → Option (Known → List ℕ × Known)
 name word = by_itself (name_of (sense word))
-
--- the most arguments behind the first one
-abbrev pub further_arguments : ℕ
-further_arguments = 7
-
-abbrev pub behind_all : {A B : Type 0} → List (A × B) → List B
-behind_all [] = []
-behind_all (pair ∷ pairs) = pair.1 ∷ behind_all pairs
-
-abbrev pub args_of : {W A B C : Type 0} → W × (A × (List (B × A) × C)) → List A
-args_of read = read.1.0 ∷ behind_all read.1.1.0
-
--- "(" expr { "," expr } ")", with at most eight expressions
-abbrev pub ArgsOf : Grammar Expr → Grammar (List Expr)
-ArgsOf F = Made args_of (Then (One (sign marks.Open)) (Then F (Then (AtMost further_arguments (Then (One (sign marks.Comma)) F)) (One (sign marks.Close)))))
-
-abbrev pub is_there : {A : Type 0} → Option A → Bool
-is_there None = false
-is_there (Some thing) = true
-
-abbrev pub count : {A : Type 0} → Option A → ℕ
-count None = 0
-count (Some thing) = 1
-
-abbrev pub args_or_none : Option (List Expr) → List Expr
-args_or_none None = []
-args_or_none (Some args) = args
-
--- a sign as it is read: a `-`, a prime, a name and a prime
-abbrev pub SignRead : Type 0
-SignRead = Option (Unit {0}) × (Option (Unit {0}) × (List ℕ × Option (Unit {0})))
-
--- sign = [ "-" ] [ "'" ] name [ "'" ]
-abbrev pub IsSign : Grammar SignRead
-IsSign = Then (Maybe (One (sign marks.Minus))) (Then (Maybe (One (sign marks.Prime))) (Then (One name) (Maybe (One (sign marks.Prime)))))
-
-abbrev pub atom_of : SignRead × Option (List Expr) → Atom
-atom_of (sign, args) = record {
-  negative = is_there sign.0;
-  before = count sign.1.0;
-  name = sign.1.1.0;
-  after = count sign.1.1.1;
-  args = args_or_none args;
-}
-
--- atom = sign [ "(" expr { "," expr } ")" ]
-abbrev pub AtomOf : Grammar Expr → Grammar Atom
-AtomOf F = Made atom_of (Then IsSign (Maybe (ArgsOf F)))
-
-abbrev pub IsAtom : ℕ → Grammar Atom
-IsAtom levels = AtomOf (IsExpr levels)
-
--- ---- formulas
 
 abbrev pub const_named : List ℕ → Option ConstOp
 const_named name =
@@ -290,12 +201,176 @@ arrow_op_of said = None
 abbrev pub arrow_op : Word → Option (Known → BinaryOp × Known)
 arrow_op word = by_itself (arrow_op_of (sense word))
 
+-- ---- productions
+
+-- The words of which expressions, atoms and formulas are made.
+pub data Terminal : Type 0 where
+  AMark : Mark → Terminal
+  ALeaf : Terminal
+  AProductOp : Terminal
+  ASumOp : Terminal
+  AName : Terminal
+  AConst : Terminal
+  APrefix : Terminal
+  APairOp : Terminal
+  AnArrow : Terminal
+
+abbrev pub WordOf : Terminal → Type 0
+WordOf (AMark mark) = Unit {0}
+WordOf ALeaf = Expr
+WordOf AProductOp = ProductOp
+WordOf ASumOp = SumOp
+WordOf AName = List ℕ
+WordOf AConst = ConstOp
+WordOf APrefix = UnaryOp
+WordOf APairOp = BinaryOp
+WordOf AnArrow = BinaryOp
+
+abbrev pub word : (t : Terminal) → Word → Option (Known → WordOf t × Known)
+word (AMark mark) = sign mark
+word ALeaf = leaf
+word AProductOp = product_op
+word ASumOp = sum_op
+word AName = name
+word AConst = const_op
+word APrefix = prefix_op
+word APairOp = pair_op
+word AnArrow = arrow_op
+
+-- a production of things, of words and of given things of one type
+abbrev pub Over : Type 0 → Type 0 → Type 1
+Over R A = Production Terminal WordOf (Unit {0}) (λ i. R) false A
+
+-- its grammar, for the one of the given things
+abbrev pub meant : {R A : Type 0} → Grammar R → Over R A → Grammar A
+meant F p = means word (λ i. F) p
+
+abbrev pub it : {R : Type 0} → Over R R
+it = given tt
+
+abbrev pub alone : {R : Type 0} → Mark → Over R (Unit {0})
+alone mark = terminal (AMark mark)
+
+-- ---- expressions
+
+-- a chain of one operand is this operand
+abbrev pub product_of : Expr × List (ProductOp × Expr) → Expr
+product_of (first, []) = first
+product_of (first, next ∷ more) = exprs.Product first (next ∷ more)
+
+abbrev pub sum_of : Expr × List (SumOp × Expr) → Expr
+sum_of (first, []) = first
+sum_of (first, next ∷ more) = exprs.Sum first (next ∷ more)
+
+-- what stands between two words
+abbrev pub between : {A B C : Type 0} → A × (B × C) → B
+between three = three.1.0
+
+abbrev pub negative_of : {A : Type 0} → A × Expr → Expr
+negative_of pair = exprs.Minus pair.1
+
+abbrev pub bracketed : {R A : Type 0} → Over R A → Over R A
+bracketed p = made_of between (and (alone marks.Open) (and p (alone marks.Close)))
+
+-- product = value { ("*" | "/" | "\\") value }
+abbrev pub product : {R : Type 0} → Over R Expr → Over R Expr
+product value = made_of product_of (and_on value (many (and (terminal AProductOp) value)))
+
+-- expr = product { ("+" | "-") product }
+abbrev pub sum : {R : Type 0} → Over R Expr → Over R Expr
+sum product = made_of sum_of (and_on product (many (and (terminal ASumOp) product)))
+
+abbrev pub expr : {R : Type 0} → Over R Expr → Over R Expr
+expr value = sum (product value)
+
+abbrev pub negative : {R : Type 0} → Over R Expr → Over R Expr
+negative value = made_of negative_of (and (alone marks.Minus) value)
+
+-- "-" value | "(" expr ")"
+abbrev pub deep_value : Over Expr Expr
+deep_value = or (negative it) (bracketed (expr it))
+
+-- value = number | name | string | variable | "_" | "-" value | "(" expr ")", where the last two open a level
+unfoldable pub IsValue : ℕ → Grammar Expr
+IsValue zero = One leaf
+IsValue (suc levels) = Either (One leaf) (meant (IsValue levels) deep_value)
+
+-- expressions, where at most so many levels are open at once
+abbrev pub IsExpr : ℕ → Grammar Expr
+IsExpr levels = meant (IsValue levels) (expr it)
+
+-- ---- atoms
+
+-- the most arguments behind the first one
+abbrev pub further_arguments : ℕ
+further_arguments = 7
+
+abbrev pub behind_all : {A B : Type 0} → List (A × B) → List B
+behind_all [] = []
+behind_all (pair ∷ pairs) = pair.1 ∷ behind_all pairs
+
+abbrev pub args_of : {W A B C : Type 0} → W × (A × (List (B × A) × C)) → List A
+args_of read = read.1.0 ∷ behind_all read.1.1.0
+
+-- "(" expr { "," expr } ")", with at most eight expressions
+abbrev pub args : {R : Type 0} → Over R Expr → Over R (List Expr)
+args expr = made_of args_of (and (alone marks.Open) (and expr (and_from (few further_arguments (and (alone marks.Comma) expr)) (alone marks.Close))))
+
+abbrev pub is_there : {A : Type 0} → Option A → Bool
+is_there None = false
+is_there (Some thing) = true
+
+abbrev pub count : {A : Type 0} → Option A → ℕ
+count None = 0
+count (Some thing) = 1
+
+abbrev pub args_or_none : Option (List Expr) → List Expr
+args_or_none None = []
+args_or_none (Some args) = args
+
+-- a sign as it is read: a `-`, a prime, a name and a prime
+abbrev pub SignRead : Type 0
+SignRead = Option (Unit {0}) × (Option (Unit {0}) × (List ℕ × Option (Unit {0})))
+
+abbrev pub primed : {R : Type 0} → Over R (Option (Unit {0}) × (List ℕ × Option (Unit {0})))
+primed = and_from (perhaps (alone marks.Prime)) (and_on (terminal AName) (perhaps (alone marks.Prime)))
+
+-- sign = [ "-" ] [ "'" ] name [ "'" ]
+abbrev pub signed : {R : Type 0} → Over R SignRead
+signed = and_from (perhaps (alone marks.Minus)) primed
+
+-- no expression is given
+abbrev pub IsSign : Grammar SignRead
+IsSign = meant (One leaf) signed
+
+abbrev pub atom_of : SignRead × Option (List Expr) → Atom
+atom_of (sign, args) = record {
+  negative = is_there sign.0;
+  before = count sign.1.0;
+  name = sign.1.1.0;
+  after = count sign.1.1.1;
+  args = args_or_none args;
+}
+
+-- atom = sign [ "(" expr { "," expr } ")" ]
+abbrev pub atom : {R : Type 0} → Over R Expr → Over R Atom
+atom expr = made_of atom_of (and_on signed (perhaps (args expr)))
+
+abbrev pub IsAtom : ℕ → Grammar Atom
+IsAtom levels = meant (IsExpr levels) (atom it)
+
+-- ---- formulas
+
 abbrev pub constant_of : {A : Type 0} → A × ConstOp → Formula
 constant_of pair = formulas.Const pair.1
 
 -- constant = "&" ("true" | "false" | "initial" | "final")
-abbrev pub IsConstant : Grammar Formula
-IsConstant = Made constant_of (Then (One (sign marks.Ampersand)) (One const_op))
+abbrev pub constant : {R : Type 0} → Over R Formula
+constant = made_of constant_of (and (alone marks.Ampersand) (terminal AConst))
+
+-- constant | atom
+abbrev pub flat_formula : Over Expr Formula
+flat_formula = or constant (made_of formulas.Atom (atom it))
 
 abbrev pub prefixed : UnaryOp × Formula → Formula
 prefixed pair = formulas.Unary pair.0 pair.1
@@ -305,36 +380,41 @@ paired (first, None) = first
 paired (first, Some second) = formulas.Binary second.0 first second.1
 
 -- pair = unary [ ("<?" | "<*" | ">?" | ">*") unary ]
-abbrev pub PairOf : Grammar Formula → Grammar Formula
-PairOf F = Made paired (Then F (Maybe (Then (One pair_op) F)))
+abbrev pub pair : {R : Type 0} → Over R Formula → Over R Formula
+pair unary = made_of paired (and_on unary (perhaps (and (terminal APairOp) unary)))
 
 -- a chain of one formula is this formula
 abbrev pub many_of : {A : Type 0} → ManyOp → Formula × List (A × Formula) → Formula
 many_of op (first, []) = first
 many_of op (first, next ∷ more) = formulas.Many op (first ∷ behind_all (next ∷ more))
 
--- and = pair { "&" pair }
-abbrev pub AndOf : Grammar Formula → Grammar Formula
-AndOf F = Made (many_of manies.And) (Then F (Each (Then (One (sign marks.Ampersand)) F)))
+-- conjunction = pair { "&" pair }
+abbrev pub conjunction : {R : Type 0} → Over R Formula → Over R Formula
+conjunction pair = made_of (many_of manies.And) (and_on pair (many (and (alone marks.Ampersand) pair)))
 
--- or = and { "|" and }
-abbrev pub OrOf : Grammar Formula → Grammar Formula
-OrOf F = Made (many_of manies.Or) (Then F (Each (Then (One (sign marks.Bar)) F)))
+-- disjunction = conjunction { "|" conjunction }
+abbrev pub disjunction : {R : Type 0} → Over R Formula → Over R Formula
+disjunction conjunction = made_of (many_of manies.Or) (and_on conjunction (many (and (alone marks.Bar) conjunction)))
 
--- formula = or [ ("->" | "<-" | "<>") or ]
-abbrev pub ArrowOf : Grammar Formula → Grammar Formula
-ArrowOf F = Made paired (Then F (Maybe (Then (One arrow_op) F)))
+-- formula = disjunction [ ("->" | "<-" | "<>") disjunction ]
+abbrev pub arrow : {R : Type 0} → Over R Formula → Over R Formula
+arrow disjunction = made_of paired (and_on disjunction (perhaps (and (terminal AnArrow) disjunction)))
 
-abbrev pub FormulaOf : Grammar Formula → Grammar Formula
-FormulaOf F = ArrowOf (OrOf (AndOf (PairOf F)))
+abbrev pub formula : {R : Type 0} → Over R Formula → Over R Formula
+formula unary = arrow (disjunction (conjunction (pair unary)))
+
+abbrev pub behind_prefix : {R : Type 0} → Over R Formula → Over R Formula
+behind_prefix unary = made_of prefixed (and (terminal APrefix) unary)
+
+-- prefix unary | "(" formula ")"
+abbrev pub deep_formula : Over Formula Formula
+deep_formula = or (behind_prefix it) (bracketed (formula it))
 
 -- unary = constant | atom | prefix unary | "(" formula ")", where the last two open a level
 unfoldable pub IsUnary : ℕ → Grammar Formula
-IsUnary zero = Either IsConstant (Made formulas.Atom (IsAtom zero))
-IsUnary (suc levels) =
-    Either (Either IsConstant (Made formulas.Atom (IsAtom (suc levels))))
-    (Either (Made prefixed (Then (One prefix_op) (IsUnary levels))) (Bracketed (FormulaOf (IsUnary levels))))
+IsUnary zero = meant (IsExpr zero) flat_formula
+IsUnary (suc levels) = Either (meant (IsExpr (suc levels)) flat_formula) (meant (IsUnary levels) deep_formula)
 
 -- formulas, where at most so many levels are open at once
 abbrev pub IsFormula : ℕ → Grammar Formula
-IsFormula levels = FormulaOf (IsUnary levels)
+IsFormula levels = meant (IsUnary levels) (formula it)

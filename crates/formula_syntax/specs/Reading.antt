@@ -1,38 +1,42 @@
 -- Reading expressions, atoms and formulas, by the level. The methods of `Reading` give what these functions give, and a layer
 -- above goes on from there; the contracts of `expr` and `formula` speak of the grammar.
-use Rattle.formula_syntax.specs.declared.marks.Mark.TheVariants as marks
-use Rattle.std.specs.Prelude.{ℕ, zero, suc, Bool, List}
+use Rattle.std.specs.Prelude.{ℕ, zero, suc, Bool, false, List}
 use Rattle.tel_term.specs.declared.exprs.Expr.{Expr}
 use Rattle.tel_rule.specs.declared.formulas.Atom.{Atom}
 use Rattle.tel_rule.specs.declared.formulas.Formula.{Formula}
-use Rattle.tel_rule.specs.declared.formulas.Formula.TheVariants as formulas
-use Rattle.tel_rule.specs.declared.formulas.ManyOp.TheVariants as manies
+use Rattle.grammar_laws.specs.Steps.{one, either, too_deep, passes}
+use Rattle.grammar_laws.specs.Productions.{begun_by, reader}
 use Rattle.formula_syntax.specs.Points.{Word, Reader}
-use Rattle.grammar_laws.specs.Steps.{made, one, both, either, at_most, each, maybe, too_deep, passes, or_also}
-use Rattle.formula_syntax.specs.Grammar.{leaf, name, product_op, sum_op, pair_op, arrow_op, prefix_op, const_op, product_of, sum_of, negative_of, between, further_arguments, args_of, SignRead, atom_of, constant_of, prefixed, paired, many_of, sign}
+use Rattle.formula_syntax.specs.Grammar.{leaf, SignRead, word, Over, it, bracketed, product, sum, negative, deep_value, args, signed, atom, constant, flat_formula, pair, conjunction, disjunction, arrow, behind_prefix, deep_formula}
+
+-- the reader of a production, for the one of the given things; and the words that it begins with, where the first is its own
+abbrev pub read_by : {R A : Type 0} → Reader R → Over R A → Reader A
+read_by read p = reader word (λ i w. false) (λ i. read) p
+
+abbrev pub begun : {R A : Type 0} → Over R A → Word → Bool
+begun p = begun_by word (λ i w. false) p
 
 -- ---- expressions
 
 abbrev pub read_bracketed : {A : Type 0} → Reader A → Reader A
-read_bracketed read = made between (both (one (sign marks.Open)) (both read (one (sign marks.Close))))
+read_bracketed read = read_by read (bracketed it)
 
 abbrev pub read_product : Reader Expr → Reader Expr
-read_product read = made product_of (both read (each (passes product_op) (both (one product_op) read)))
+read_product read = read_by read (product it)
 
 abbrev pub read_sum : Reader Expr → Reader Expr
-read_sum read = made sum_of (both read (each (passes sum_op) (both (one sum_op) read)))
+read_sum read = read_by read (sum it)
 
 abbrev pub read_negative : Reader Expr → Reader Expr
-read_negative read = made negative_of (both (one (sign marks.Minus)) read)
+read_negative read = read_by read (negative it)
 
 -- the words that open a level of a value
 abbrev pub opens_value : Word → Bool
-opens_value = or_also (passes (sign marks.Minus)) (passes (sign marks.Open))
+opens_value = begun deep_value
 
 unfoldable pub read_value : ℕ → Reader Expr
 read_value zero = either (passes leaf) (one leaf) (too_deep opens_value)
-read_value (suc levels) =
-    either (passes leaf) (one leaf) (either (passes (sign marks.Minus)) (read_negative (read_value levels)) (read_bracketed (read_sum (read_product (read_value levels)))))
+read_value (suc levels) = either (passes leaf) (one leaf) (read_by (read_value levels) deep_value)
 
 abbrev pub read_expr : ℕ → Reader Expr
 read_expr levels = read_sum (read_product (read_value levels))
@@ -40,59 +44,54 @@ read_expr levels = read_sum (read_product (read_value levels))
 -- ---- atoms
 
 abbrev pub read_args : Reader Expr → Reader (List Expr)
-read_args read = made args_of (both (one (sign marks.Open)) (both read (both (at_most further_arguments (passes (sign marks.Comma)) (both (one (sign marks.Comma)) read)) (one (sign marks.Close)))))
+read_args read = read_by read (args it)
 
 abbrev pub read_sign : Reader SignRead
-read_sign = both (maybe (passes (sign marks.Minus)) (one (sign marks.Minus))) (both (maybe (passes (sign marks.Prime)) (one (sign marks.Prime))) (both (one name) (maybe (passes (sign marks.Prime)) (one (sign marks.Prime)))))
-
-abbrev pub read_atom_of : Reader Expr → Reader Atom
-read_atom_of read = made atom_of (both read_sign (maybe (passes (sign marks.Open)) (read_args read)))
+read_sign = read_by (one leaf) signed
 
 abbrev pub read_atom : ℕ → Reader Atom
-read_atom levels = read_atom_of (read_expr levels)
+read_atom levels = read_by (read_expr levels) (atom it)
 
 -- ---- formulas
 
 abbrev pub read_constant : Reader Formula
-read_constant = made constant_of (both (one (sign marks.Ampersand)) (one const_op))
+read_constant = read_by (one leaf) constant
 
 abbrev pub read_prefixed : Reader Formula → Reader Formula
-read_prefixed read = made prefixed (both (one prefix_op) read)
+read_prefixed read = read_by read (behind_prefix it)
 
 abbrev pub read_pair : Reader Formula → Reader Formula
-read_pair read = made paired (both read (maybe (passes pair_op) (both (one pair_op) read)))
+read_pair read = read_by read (pair it)
 
 abbrev pub read_and : Reader Formula → Reader Formula
-read_and read = made (many_of manies.And) (both read (each (passes (sign marks.Ampersand)) (both (one (sign marks.Ampersand)) read)))
+read_and read = read_by read (conjunction it)
 
 abbrev pub read_or : Reader Formula → Reader Formula
-read_or read = made (many_of manies.Or) (both read (each (passes (sign marks.Bar)) (both (one (sign marks.Bar)) read)))
+read_or read = read_by read (disjunction it)
 
 abbrev pub read_arrow : Reader Formula → Reader Formula
-read_arrow read = made paired (both read (maybe (passes arrow_op) (both (one arrow_op) read)))
+read_arrow read = read_by read (arrow it)
 
 abbrev pub read_formula_of : Reader Formula → Reader Formula
 read_formula_of read = read_arrow (read_or (read_and (read_pair read)))
 
--- the words that an atom begins with, and those of a unary formula that opens no level
+-- the words that an atom begins with, those of a unary formula that opens no level, and those that open one
 abbrev pub starts_atom : Word → Bool
-starts_atom = or_also (passes (sign marks.Minus)) (or_also (passes (sign marks.Prime)) (passes name))
+starts_atom = begun {R = Expr} (atom it)
 
 abbrev pub starts_flat : Word → Bool
-starts_flat = or_also (passes (sign marks.Ampersand)) starts_atom
+starts_flat = begun flat_formula
 
--- the words that open a level of a unary formula
 abbrev pub opens_unary : Word → Bool
-opens_unary = or_also (passes prefix_op) (passes (sign marks.Open))
+opens_unary = begun deep_formula
 
 -- a constant or an atom
 abbrev pub read_flat : ℕ → Reader Formula
-read_flat levels = either (passes (sign marks.Ampersand)) read_constant (made formulas.Atom (read_atom levels))
+read_flat levels = read_by (read_expr levels) flat_formula
 
 unfoldable pub read_unary : ℕ → Reader Formula
 read_unary zero = either starts_flat (read_flat zero) (too_deep opens_unary)
-read_unary (suc levels) =
-    either starts_flat (read_flat (suc levels)) (either (passes prefix_op) (read_prefixed (read_unary levels)) (read_bracketed (read_formula_of (read_unary levels))))
+read_unary (suc levels) = either starts_flat (read_flat (suc levels)) (read_by (read_unary levels) deep_formula)
 
 abbrev pub read_formula : ℕ → Reader Formula
 read_formula levels = read_formula_of (read_unary levels)

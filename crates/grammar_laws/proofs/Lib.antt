@@ -1,11 +1,15 @@
+pub mod Absent
 pub mod Dependents
 pub mod Described
 pub mod Exclusive
 pub mod Fronts
+pub mod Gains
 pub mod Levels
+pub mod Nests
 pub mod Nonterminals
 pub mod Outcomes
 pub mod ReadBy
 pub mod Readers
 pub mod Sets
+pub mod Steadies
 pub mod Steady

@@ -522,7 +522,7 @@ module _ {Word Known : Type 0} where
   cons-sound : {A : Type 0} (most : ℕ) (F : Grammar Word Known A) (from middle to : Point Word Known) (thing : A) (things : List A) → F from thing middle → AtMost most F middle things to → AtMost (suc most) F from (thing ∷ things) to
   cons-sound most F from middle to thing things reads r = (omega (arith, r.0), (middle, reads, r.1))
 
-  at_most-sound : {A : Type 0} (most : ℕ) (F : Grammar Word Known A) (test : Word → Bool) (read : Reader Word Known A) → ((from : Point Word Known) (thing : A) (to : Point Word Known) → read from ≡ Got thing to → F from thing to) → (from : Point Word Known) (things : List A) (to : Point Word Known) → at_most most test read from ≡ Got things to → AtMost most F from things to
+  pub at_most-sound : {A : Type 0} (most : ℕ) (F : Grammar Word Known A) (test : Word → Bool) (read : Reader Word Known A) → ((from : Point Word Known) (thing : A) (to : Point Word Known) → read from ≡ Got thing to → F from thing to) → (from : Point Word Known) (things : List A) (to : Point Word Known) → at_most most test read from ≡ Got things to → AtMost most F from things to
   at_most-sound zero F test read sound from things to e =
       let a : [] ≡ things = cc in let b : from ≡ to = cc in
       subst (λ xs. AtMost 0 F from xs to) a (omega arith, b)
@@ -618,7 +618,7 @@ module _ {Word Known : Type 0} where
   each-opens F starts s = record { some = each-opens_in F starts s }
 
   -- several things take at least a word each
-  each-length : {A : Type 0} (F : Grammar Word Known A) (starts : Word → Bool) → Starts F starts → (from : Point Word Known) (things : List A) (to : Point Word Known) → Each F from things to → length things + length to.words ≤ length from.words
+  pub each-length : {A : Type 0} (F : Grammar Word Known A) (starts : Word → Bool) → Starts F starts → (from : Point Word Known) (things : List A) (to : Point Word Known) → Each F from things to → length things + length to.words ≤ length from.words
   each-length F starts s from [] to same = omega (arith, ap (λ (p : Point Word Known). length p.words) same)
   each-length F starts s from (thing ∷ things) to r = omega (arith, s.less from thing r.0 r.1, each-length F starts s r.0 things to r.2)
 

@@ -263,3 +263,6 @@ module _ {Word Known : Type 0} where
 
   too_deep-takes : {A : Type 0} (opens : Word → Bool) (from : Point Word Known) (rest : List Word) → begins opens from.words ≡ true → too_deep {A = A} opens from ≡ Stuck Unexpected rest → ⊥
   too_deep-takes {A = A} opens from rest is e = let g : ◌≡◌ {A = Read Word Known A} (Stuck Deep from.words) (Stuck Unexpected rest) = sym (too_deep-got {A = A} opens from true is) ∙ e in absurd cc
+
+  pub flat-takes : {A : Type 0} (read : Reader Word Known A) (starts opens : Word → Bool) → Takes read starts → Takes (either starts read (too_deep opens)) (or_also starts opens)
+  flat-takes {A = A} read starts opens t = either-takes read (too_deep opens) starts opens t (record { take = λ from rest is e. absurd (too_deep-takes {A = A} opens from rest is e) })

@@ -1,11 +1,10 @@
 -- A literal without `not` is an atom or a comparison, which is told by at most three words.
 use Rattle.std.proofs.Common.{◌≡◌, ℕ, zero, suc, ◌<◌, ◌≤◌, Bool, true, false, not, List, [], ◌∷◌, ◌++◌, length, Option, Some, None, refl, sym, ap, subst, ◌∙◌, arith, inl, inr}
-use Rattle.std.specs.Prelude.{◌⊎◌, ◌||◌, codes, is_some, if◌then◌else◌}
+use Rattle.std.specs.Prelude.{◌⊎◌, ◌||◌, is_some, if◌then◌else◌}
 use Rattle.std.proofs.lemmas.List.{length-append}
 use Rattle.std.proofs.lemmas.Bool.{cases_Bool, false≢true}
 use Rattle.tel_rule.specs.declared.statements.LitItem.{LitItem}
 use Rattle.tel_rule.specs.declared.statements.LitItem.TheVariants as items
-use Rattle.tel_rule.specs.declared.statements.Relation.TheVariants as relations
 use Rattle.tel_term.specs.declared.exprs.Expr.{Expr}
 use Rattle.formula_syntax.specs.declared.marks.Mark.TheVariants as marks
 use Rattle.formula_syntax.specs.Points.{Word, Known, Point, Grammar, Read, Reader}
@@ -13,15 +12,18 @@ use Rattle.grammar_laws.specs.Points.{at, begins}
 use Rattle.formula_syntax.specs.Senses.{Sense, Name, Variable, Blank, Number, Str, Sign, sense}
 use Rattle.grammar_laws.specs.Shapes.{One, Then, Each, Maybe}
 use Rattle.grammar_laws.specs.Steps.{Unexpected, Deep, Got, Stuck, rest_of, and_then, give, map_read, made, one, both, each, maybe, passes, or_also}
-use Rattle.formula_syntax.specs.Grammar.{plain, by_itself, leaf, leaf_of, name, name_of, product_op, product_op_of, sum_op, sum_op_of, negative_of, product_of, sum_of, SignRead, IsSign, atom_of, IsValue, IsExpr, IsAtom, ProductOf, ArgsOf, sign, is_sign}
+use Rattle.formula_syntax.specs.Grammar.{by_itself, leaf, leaf_of, name, name_of, product_op, product_op_of, sum_op, sum_op_of, negative_of, product_of, sum_of, SignRead, IsSign, atom_of, AMark, ALeaf, AName, meant, it, product, args as arguments, IsValue, IsExpr, IsAtom, sign, is_sign, plain}
 use Rattle.formula_syntax.specs.Reading.{read_value, read_product, read_negative, read_expr, read_sign, read_args, read_atom, starts_atom}
-use Rattle.grammar_laws.proofs.Readers.{head, one-starts_in, Near, Reads, begins-head, begins-front, rest-map, either-got, goes-inl, goes-inr, framed-inl, framed-inr, nothing, ends-first, ends-second, either-starts, not-ends}
+use Rattle.grammar_laws.proofs.Readers.{head, one-starts_in, Near, Reads, begins-head, begins-front, rest-map, either-got, goes-inl, goes-inr, framed-inl, framed-inr, ends-first, ends-second, either-starts, not-ends}
 use Rattle.grammar_laws.proofs.Levels.{Deeper, Raised}
-use Rattle.grammar_laws.proofs.Nonterminals.{Known_by, Lifts, Apart, Passing, word-optional, operand-known, operand-lifts, operands-optional, made-known, made-lifts, then-known, then-lifts}
-use Rattle.grammar_laws.proofs.ReadBy.{Read_by}
-use Rattle.formula_syntax.proofs.Families.{minus-leaf_of, starts_value, more_sum, value-known, expr-known, expr-lifts, passing-product_op, sums-optional, sign_word, not-sum, passing-sign}
-use Rattle.formula_syntax.proofs.FormulaFamilies.{prime-name_of, minus-name_of, more_atom, atom-known, atom-lifts, primed-known, args-optional}
-use Rattle.part_syntax.specs.Grammar.{relation, relation_of, compare_of, IsAtomItem, IsComparison, IsPlain}
+use Rattle.grammar_laws.proofs.Nonterminals.{Lifts, made-lifts}
+use Rattle.grammar_laws.proofs.ReadBy.{Read_by, made-read}
+use Rattle.grammar_laws.proofs.Described.{reads-it, lifts-it}
+use Rattle.grammar_laws.specs.Productions.{terminal, given, and}
+use Rattle.formula_syntax.proofs.Terminals.{words-apart}
+use Rattle.formula_syntax.proofs.Families.{starts_value, more_expr, more_atom, value-read, expr-read, expr-lifts, products-read, sums-read, prime-read, primed-read, args-read, atom-read, atom-lifts}
+use Rattle.part_syntax.specs.Grammar.{relation, relation_of, compare_of, ARelation, comparison, IsAtomItem, IsComparison, IsPlain}
+use Rattle.part_syntax.proofs.WordSets.{compared_words}
 use Rattle.part_syntax.specs.Reading.{starts_plain, goes_on, compares_behind, compares, read_plain, read_atom_item, read_comparison}
 
 -- ---- words
@@ -29,21 +31,6 @@ use Rattle.part_syntax.specs.Reading.{starts_plain, goes_on, compares_behind, co
 name-leaf_of : (s : Sense) → is_some (by_itself (name_of s)) ≡ true → is_some (leaf_of s) ≡ true
 name-leaf_of (Name text) is = refl
 name-leaf_of _ is = absurd (false≢true is)
-
-pub passing-relation : Passing relation
-passing-relation = record { word = sign_word (codes "="); make = λ known. (relations.Equal, known); gives = refl }
-
-relation-more_of : (s : Sense) → is_some (by_itself (relation_of s)) ≡ true → (is_some (by_itself (product_op_of s)) ≡ false) × (is_some (by_itself (sum_op_of s)) ≡ false)
-relation-more_of (Sign marks.Equal) is = (refl, refl)
-relation-more_of (Sign marks.Unequal) is = (refl, refl)
-relation-more_of (Sign marks.Less) is = (refl, refl)
-relation-more_of (Sign marks.LessEqual) is = (refl, refl)
-relation-more_of (Sign marks.Greater) is = (refl, refl)
-relation-more_of (Sign marks.GreaterEqual) is = (refl, refl)
-relation-more_of _ is = absurd (false≢true is)
-
-apart-relation : Apart (passes relation) more_sum
-apart-relation word is = not-sum word (relation-more_of (sense word) is)
 
 -- ---- what was looked at
 
@@ -173,12 +160,12 @@ abbrev read_named : Reader (List ℕ × Option (Unit {0}))
 read_named = both (one name) (maybe (passes (sign marks.Prime)) (one (sign marks.Prime)))
 
 not-primed : (word : Word) (words : List Word) → passes name word ≡ true → begins (passes (sign marks.Prime)) (word ∷ words) ≡ false
-not-primed word words is = prime-name_of (sense word) is
+not-primed word words is = words-apart AName (AMark marks.Prime) refl word is
 
 primed-takes : (known : Known) (word : Word) (words : List Word) → passes name word ≡ true → length (rest_of (read_primed (at known (word ∷ words)))) ≤ length words
 primed-takes known word words is =
     let a = rest-maybe_none (passes (sign marks.Prime)) (one (sign marks.Prime)) read_named known (word ∷ words) (not-primed word words is) in
-    let b = rest-behind name (maybe (passes (sign marks.Prime)) (one (sign marks.Prime))) (word-optional (sign marks.Prime) (passing-sign marks.Prime)).reads.near known word words is in
+    let b = rest-behind name (maybe (passes (sign marks.Prime)) (one (sign marks.Prime))) prime-read.reads.near known word words is in
     omega (arith, ap length a, b)
 
 sign-takes_minus : (known : Known) (word : Word) (words : List Word) (s : SomeOf ((sign marks.Minus) word)) → passes (sign marks.Minus) word ≡ true → rest_of (read_sign (at known (word ∷ words))) ≡ rest_of (read_primed (at (s.value known).1 words))
@@ -192,7 +179,7 @@ sign-one known [] is = absurd (false≢true is)
 sign-one known (word ∷ words) is = elim (cases_Bool (passes (sign marks.Minus) word)) [
   | inl negative ↦
       let s = some-of ((sign marks.Minus) word) negative in
-      omega (arith, ap length (sign-takes_minus known word words s negative), near-le read_primed (at (s.value known).1 words) (primed-known.reads.near (at (s.value known).1 words)))
+      omega (arith, ap length (sign-takes_minus known word words s negative), near-le read_primed (at (s.value known).1 words) (primed-read.reads.near (at (s.value known).1 words)))
   | inr positive ↦
       let named : passes name word ≡ true = second-of (passes (sign marks.Minus) word) (passes name word) positive is in
       omega (arith, ap length (sign-takes_name known word words positive), primed-takes known word words named)
@@ -208,7 +195,7 @@ sign-two known words first second more same negative named =
     omega (arith, ap length a, primed-takes (s.value known).1 second more named)
 
 args-near : (n : ℕ) (from : Point) → Near (maybe (passes (sign marks.Open)) (read_args (read_expr (suc n)))) from (maybe (passes (sign marks.Open)) (read_args (read_expr (suc n))) from)
-args-near n from = (args-optional (suc n)).reads.near from
+args-near n from = (args-read (suc n)).reads.near from
 
 atom-rest : (n : ℕ) (from : Point) → length (rest_of (read_atom_item n from)) ≤ length (rest_of (read_sign from))
 atom-rest n from =
@@ -235,7 +222,7 @@ value-name (suc n) known word words is = let l : passes leaf word ≡ true = nam
 value-negative : (n : ℕ) (known : Known) (word : Word) (words : List Word) → passes (sign marks.Minus) word ≡ true → (s : SomeOf ((sign marks.Minus) word)) → rest_of (read_value (suc n) (at known (word ∷ words))) ≡ rest_of (read_value n (at (s.value known).1 words))
 unfolding read_value
 value-negative n known word words is s =
-    let l : passes leaf word ≡ false = minus-leaf_of (sense word) is in
+    let l : passes leaf word ≡ false = words-apart (AMark marks.Minus) ALeaf refl word is in
     let a : rest_of (read_negative (read_value n) (at known (word ∷ words))) ≡ rest_of (both (one (sign marks.Minus)) (read_value n) (at known (word ∷ words))) = rest-map negative_of (both (one (sign marks.Minus)) (read_value n) (at known (word ∷ words))) in
     let b : rest_of (both (one (sign marks.Minus)) (read_value n) (at known (word ∷ words))) ≡ rest_of (read_value n (at (s.value known).1 words)) = rw s.is (rest-map (λ (e : Expr). let pair : Unit {0} × Expr = ((s.value known).0, e) in pair) (read_value n (at (s.value known).1 words))) in
     rw (l, is) (a ∙ b)
@@ -245,7 +232,7 @@ value-one n known [] is = absurd (false≢true is)
 value-one n known (word ∷ words) is = elim (cases_Bool (passes (sign marks.Minus) word)) [
   | inl negative ↦
       let s = some-of ((sign marks.Minus) word) negative in
-      omega (arith, ap length (value-negative n known word words negative s), near-le (read_value n) (at (s.value known).1 words) ((value-known n).reads.near (at (s.value known).1 words)))
+      omega (arith, ap length (value-negative n known word words negative s), near-le (read_value n) (at (s.value known).1 words) ((value-read n).reads.near (at (s.value known).1 words)))
   | inr positive ↦
       let named : passes name word ≡ true = second-of (passes (sign marks.Minus) word) (passes name word) positive is in
       omega (arith, ap length (value-name (suc n) known word words named))
@@ -261,10 +248,10 @@ value-two n known words first second more same negative named =
     omega (arith, ap length a)
 
 products-near : (n : ℕ) (from : Point) → Near (each (passes product_op) (both (one product_op) (read_value n))) from (each (passes product_op) (both (one product_op) (read_value n)) from)
-products-near n from = (operands-optional product_op (IsValue n) (read_value n) starts_value nothing passing-product_op (value-known n) (λ word is. refl)).reads.near from
+products-near n from = (products-read n).reads.near from
 
 sums-near : (n : ℕ) (from : Point) → Near (each (passes sum_op) (both (one sum_op) (read_product (read_value n)))) from (each (passes sum_op) (both (one sum_op) (read_product (read_value n))) from)
-sums-near n from = (sums-optional n).reads.near from
+sums-near n from = (sums-read n).reads.near from
 
 expr-rest : (n : ℕ) (from : Point) → length (rest_of (read_expr n from)) ≤ length (rest_of (read_value n from))
 expr-rest n from =
@@ -276,8 +263,11 @@ expr-rest n from =
       rest-both (read_value n) (each (passes product_op) (both (one product_op) (read_value n))) (products-near n) from,
     )
 
+related-read : (n : ℕ) → Read_by (Then (One relation) (IsExpr (suc n))) (both (one relation) (read_expr (suc n))) (passes relation) more_expr
+related-read n = reads-it compared_words (λ i. IsExpr (suc n)) (λ i. read_expr (suc n)) (λ i. expr-read (suc n)) (and (terminal ARelation) (given tt)) refl
+
 related-near : (n : ℕ) (from : Point) → Near (both (one relation) (read_expr (suc n))) from (both (one relation) (read_expr (suc n)) from)
-related-near n from = (operand-known relation (IsExpr (suc n)) (read_expr (suc n)) starts_value more_sum passing-relation (expr-known (suc n))).reads.near from
+related-near n from = (related-read n).reads.near from
 
 comparison-rest : (n : ℕ) (from : Point) → length (rest_of (read_comparison n from)) ≤ length (rest_of (read_value (suc n) from))
 comparison-rest n from =
@@ -317,7 +307,7 @@ prime-ends : (word : Word) → passes (sign marks.Prime) word ≡ true → goes_
 prime-ends word is = not-goes_on word (goes_on-prime_of (sense word) is)
 
 -- behind the arguments, if there are any, nothing goes on
-args-ends : (n : ℕ) (from : Point) (args : Option (List Expr)) (to : Point) → Maybe (ArgsOf (IsExpr n)) from args to → begins goes_on to.words ≡ false → begins goes_on from.words ≡ false
+args-ends : (n : ℕ) (from : Point) (args : Option (List Expr)) (to : Point) → Maybe (meant (IsExpr n) (arguments it)) from args to → begins goes_on to.words ≡ false → begins goes_on from.words ≡ false
 args-ends n from None to same end = ap (λ (p : Point). begins goes_on p.words) same ∙ end
 args-ends n from (Some args) to r end = one-begins (sign marks.Open) goes_on false opening-ends from r.of.0 r.reads.middle r.reads.first
 
@@ -351,7 +341,7 @@ alone-no : (words : List Word) → NameAlone words → NoComparison words
 unfolding compares
 alone-no words a = record {
   behind = rw (a.is, a.named) a.alone;
-  first = let n : passes (sign marks.Minus) a.word ≡ false = minus-name_of (sense a.word) a.named in rw (a.is, n, a.named) a.alone;
+  first = let n : passes (sign marks.Minus) a.word ≡ false = words-apart AName (AMark marks.Minus) refl a.word a.named in rw (a.is, n, a.named) a.alone;
 }
 
 prime-plain_of : (s : Sense) → is_some (plain (is_sign marks.Prime s)) ≡ true → (is_some (plain (is_sign marks.Minus s)) ≡ false) × (is_some (by_itself (name_of s)) ≡ false)
@@ -474,8 +464,8 @@ expr-comparing : (n : ℕ) (from : Point) (expr : Expr) (to : Point) → IsExpr 
 expr-comparing n from expr to m on =
     let t = m.reads in
     let p = t.first.reads in
-    let sum_on = chain-on sum_op (ProductOf (IsValue n)) (sums-optional n).opens.some goes_on-sum t.middle m.of.1 to t.second on in
-    let product_on = chain-on product_op (IsValue n) (operands-optional product_op (IsValue n) (read_value n) starts_value nothing passing-product_op (value-known n) (λ word is. refl)).opens.some goes_on-product p.middle t.first.of.1 t.middle p.second sum_on in
+    let sum_on = chain-on sum_op (meant (IsValue n) (product it)) (sums-read n).opens.some goes_on-sum t.middle m.of.1 to t.second on in
+    let product_on = chain-on product_op (IsValue n) (products-read n).opens.some goes_on-product p.middle t.first.of.1 t.middle p.second sum_on in
     value-comparing n from t.first.of.0 p.middle p.first product_on
 
 comparison-compares : (n : ℕ) (from : Point) (item : LitItem) (to : Point) → IsComparison n from item to → compares from.words ≡ true
@@ -486,16 +476,13 @@ comparison-compares n from item to m =
 -- ---- the reader of both
 
 abbrev pub more_plain : Word → Bool
-more_plain = or_also goes_on (or_also more_atom more_sum)
+more_plain = or_also goes_on (or_also more_atom more_expr)
 
-pub atom_item-known : (n : ℕ) → Known_by (IsAtomItem n) (read_atom_item n) starts_atom more_atom
-atom_item-known n = made-known items.Atom (IsAtom (suc n)) (read_atom (suc n)) starts_atom more_atom (atom-known (suc n))
+pub atom_item-read : (n : ℕ) → Read_by (IsAtomItem n) (read_atom_item n) starts_atom more_atom
+atom_item-read n = made-read items.Atom (IsAtom (suc n)) (read_atom (suc n)) starts_atom more_atom (atom-read (suc n))
 
-pub comparison-known : (n : ℕ) → Known_by (IsComparison n) (read_comparison n) starts_value more_sum
-comparison-known n =
-    made-known compare_of (Then (IsExpr (suc n)) (Then (One relation) (IsExpr (suc n)))) (both (read_expr (suc n)) (both (one relation) (read_expr (suc n)))) starts_value more_sum
-    (then-known (IsExpr (suc n)) (Then (One relation) (IsExpr (suc n))) (read_expr (suc n)) (both (one relation) (read_expr (suc n))) starts_value more_sum (passes relation) more_sum (expr-known (suc n))
-    (operand-known relation (IsExpr (suc n)) (read_expr (suc n)) starts_value more_sum passing-relation (expr-known (suc n))) apart-relation)
+comparison-read : (n : ℕ) → Read_by (IsComparison n) (read_comparison n) starts_value more_expr
+comparison-read n = reads-it compared_words (λ i. IsExpr (suc n)) (λ i. read_expr (suc n)) (λ i. expr-read (suc n)) comparison refl
 
 plain-got : (n : ℕ) (from : Point) (b : Bool) → compares from.words ≡ b → read_plain n from ≡ (elim b [ true ↦ read_comparison n from | false ↦ read_atom_item n from ])
 plain-got n from true is = rw is refl
@@ -503,7 +490,7 @@ plain-got n from false is = rw is refl
 
 plain-near : (n : ℕ) (from : Point) (b : Bool) → compares from.words ≡ b → Near (read_plain n) from (elim b [ true ↦ read_comparison n from | false ↦ read_atom_item n from ])
 plain-near n from true is =
-    let m = (comparison-known n).reads.near from in
+    let m = (comparison-read n).reads.near from in
     record {
       front = m.front;
       whole = m.whole;
@@ -512,7 +499,7 @@ plain-near n from true is =
           ∙ m.again rest same;
     }
 plain-near n from false is =
-    let m = (atom_item-known n).reads.near from in
+    let m = (atom_item-read n).reads.near from in
     record {
       front = m.front;
       whole = m.whole;
@@ -526,18 +513,18 @@ near-same {A = A} read from out is n = subst (λ (r : Read A). Near read from r)
 
 plain-reads : (n : ℕ) → Reads (IsPlain n) (read_plain n) more_plain
 plain-reads n =
-    let a = (atom_item-known n).reads in
-    let c = (comparison-known n).reads in
+    let a = (atom_item-read n).reads in
+    let c = (comparison-read n).reads in
     record {
       sound = λ from thing to e. elim (cases_Bool (compares from.words)) [
         | inl is ↦ inr (c.sound from thing to (sym (plain-got n from true is) ∙ e))
         | inr is ↦ inl (a.sound from thing to (sym (plain-got n from false is) ∙ e))
       ];
       full = λ from thing to reads end. elim reads [
-        | inl r ↦ plain-got n from false (atom-compares n from thing to r (not-ends goes_on to.words (ends-first goes_on (or_also more_atom more_sum) to.words end)))
-            ∙ a.full from thing to r (ends-first more_atom more_sum to.words (ends-second goes_on (or_also more_atom more_sum) to.words end))
+        | inl r ↦ plain-got n from false (atom-compares n from thing to r (not-ends goes_on to.words (ends-first goes_on (or_also more_atom more_expr) to.words end)))
+            ∙ a.full from thing to r (ends-first more_atom more_expr to.words (ends-second goes_on (or_also more_atom more_expr) to.words end))
         | inr r ↦ plain-got n from true (comparison-compares n from thing to r)
-            ∙ c.full from thing to r (ends-second more_atom more_sum to.words (ends-second goes_on (or_also more_atom more_sum) to.words end))
+            ∙ c.full from thing to r (ends-second more_atom more_expr to.words (ends-second goes_on (or_also more_atom more_expr) to.words end))
       ];
       near = λ from. near-same (read_plain n) from (elim (compares from.words) [ true ↦ read_comparison n from | false ↦ read_atom_item n from ]) (plain-got n from (compares from.words) refl) (plain-near n from (compares from.words) refl);
       framed = λ from thing to reads. elim reads [
@@ -552,15 +539,12 @@ plain-reads n =
     }
 
 pub plain-read : (n : ℕ) → Read_by (IsPlain n) (read_plain n) starts_plain more_plain
-plain-read n = record { reads = plain-reads n; begun = either-starts (IsAtomItem n) (IsComparison n) starts_atom starts_value (atom_item-known n).begun (comparison-known n).begun }
+plain-read n = record { reads = plain-reads n; begun = either-starts (IsAtomItem n) (IsComparison n) starts_atom starts_value (atom_item-read n).begun (comparison-read n).begun }
 
 -- ---- one level more
 
-pub comparison-lifts : (n : ℕ) → Lifts (IsComparison n) (IsComparison (suc n)) (read_comparison n) (read_comparison (suc n))
-comparison-lifts n =
-    made-lifts compare_of (Then (IsExpr (suc n)) (Then (One relation) (IsExpr (suc n)))) (Then (IsExpr (suc (suc n))) (Then (One relation) (IsExpr (suc (suc n))))) (both (read_expr (suc n)) (both (one relation) (read_expr (suc n)))) (both (read_expr (suc (suc n))) (both (one relation) (read_expr (suc (suc n)))))
-    (then-lifts (IsExpr (suc n)) (IsExpr (suc (suc n))) (Then (One relation) (IsExpr (suc n))) (Then (One relation) (IsExpr (suc (suc n)))) (read_expr (suc n)) (read_expr (suc (suc n))) (both (one relation) (read_expr (suc n))) (both (one relation) (read_expr (suc (suc n))))
-    (expr-lifts (suc n)) (operand-lifts relation (IsExpr (suc n)) (IsExpr (suc (suc n))) (read_expr (suc n)) (read_expr (suc (suc n))) passing-relation (expr-lifts (suc n))) (expr-known (suc (suc n))).reads.near)
+comparison-lifts : (n : ℕ) → Lifts (IsComparison n) (IsComparison (suc n)) (read_comparison n) (read_comparison (suc n))
+comparison-lifts n = lifts-it compared_words (λ i. IsExpr (suc n)) (λ i. IsExpr (suc (suc n))) (λ i. read_expr (suc n)) (λ i. read_expr (suc (suc n))) (λ i. expr-lifts (suc n)) (λ i. expr-read (suc (suc n))) comparison refl
 
 pub atom_item-lifts : (n : ℕ) → Lifts (IsAtomItem n) (IsAtomItem (suc n)) (read_atom_item n) (read_atom_item (suc n))
 atom_item-lifts n = made-lifts items.Atom (IsAtom (suc n)) (IsAtom (suc (suc n))) (read_atom (suc n)) (read_atom (suc (suc n))) (atom-lifts (suc n))

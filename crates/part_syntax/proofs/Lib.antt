@@ -1,6 +1,5 @@
 pub mod AtomOrComparison
 pub mod Bodies
-pub mod Codes
 pub mod Decided
 pub mod Enclosed
 pub mod Fresh
@@ -18,3 +17,4 @@ pub mod TextReads
 pub mod Things
 pub mod Told
 pub mod Whole
+pub mod WordSets

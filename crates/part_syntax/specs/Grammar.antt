@@ -28,9 +28,9 @@ use Rattle.formula_syntax.specs.declared.marks.Mark.TheVariants as marks
 use Rattle.formula_syntax.specs.Points.{Word, Known, Point, Grammar}
 use Rattle.grammar_laws.specs.Points.{at}
 use Rattle.formula_syntax.specs.Senses.{Sense, Name, Number, Sign, sense, number_of}
-use Rattle.grammar_laws.specs.Shapes.{One, Then, Made, Either, Each, After}
+use Rattle.grammar_laws.specs.Shapes.{Made, Either, Each, After}
 use Rattle.formula_syntax.specs.Grammar.{by_itself, plain, sign, name, further_arguments, behind_all, is_there, count, SignRead, IsSign, IsExpr, IsAtom, IsFormula}
-use Rattle.grammar_laws.specs.Productions.{Production, given, led as led_by, ended as ended_by, ended_from as ended_from_by, made_of, and, and_on, and_from, or, many, few, perhaps, means, behind}
+use Rattle.grammar_laws.specs.Productions.{Production, terminal, given, led as led_by, ended as ended_by, ended_from as ended_from_by, made_of, and, and_on, and_from, or, many, few, perhaps, means, behind}
 
 -- ---- words
 
@@ -92,9 +92,40 @@ literal nots item = record { nots = nots; item = item }
 abbrev pub compare_of : Expr × (Relation × Expr) → LitItem
 compare_of read = items.Compare read.1.0 read.0 read.1.1
 
+-- The words of which statements are made.
+pub data Terminal : Type 0 where
+  AMark : Mark → Terminal
+  ATel : Terminal
+  AName : Terminal
+  APart : Terminal
+  AnArity : Terminal
+  ASeparator : Terminal
+  ARelation : Terminal
+
+abbrev pub WordOf : Terminal → Type 0
+WordOf (AMark mark) = Unit {0}
+WordOf ATel = Unit {0}
+WordOf AName = List ℕ
+WordOf APart = Part
+WordOf AnArity = ℕ
+WordOf ASeparator = Unit {0}
+WordOf ARelation = Relation
+
+abbrev pub word : (t : Terminal) → Word → Option (Known → WordOf t × Known)
+word (AMark mark) = sign mark
+word ATel = tel_word
+word AName = name
+word APart = part
+word AnArity = arity
+word ASeparator = separator
+word ARelation = relation
+
 -- comparison = expr ("=" | "!=" | "<" | "<=" | ">" | ">=") expr
+abbrev pub comparison : Production Terminal WordOf (Unit {0}) (λ i. Expr) false LitItem
+comparison = made_of compare_of (and (given tt) (and (terminal ARelation) (given tt)))
+
 abbrev pub IsComparison : ℕ → Grammar LitItem
-IsComparison n = Made compare_of (Then (IsExpr (suc n)) (Then (One relation) (IsExpr (suc n))))
+IsComparison n = means word (λ i. IsExpr (suc n)) comparison
 
 abbrev pub IsAtomItem : ℕ → Grammar LitItem
 IsAtomItem n = Made items.Atom (IsAtom (suc n))
@@ -103,14 +134,8 @@ IsAtomItem n = Made items.Atom (IsAtom (suc n))
 abbrev pub IsPlain : ℕ → Grammar LitItem
 IsPlain n = Either (IsAtomItem n) (IsComparison n)
 
--- What the productions of statements are made of.
+-- What the productions of statements are made of, beside words.
 pub data Thing : Type 0 where
-  AMark : Mark → Thing
-  ATel : Thing
-  AName : Thing
-  APart : Thing
-  AnArity : Thing
-  ASeparator : Thing
   ASign : Thing
   AnExpr : Thing
   AnAtomItem : Thing
@@ -119,12 +144,6 @@ pub data Thing : Type 0 where
   APlain : Thing
 
 abbrev pub Of : Thing → Type 0
-Of (AMark mark) = Unit {0}
-Of ATel = Unit {0}
-Of AName = List ℕ
-Of APart = Part
-Of AnArity = ℕ
-Of ASeparator = Unit {0}
 Of ASign = SignRead
 Of AnExpr = Expr
 Of AnAtomItem = LitItem
@@ -133,12 +152,6 @@ Of AFormula = Formula
 Of APlain = LitItem
 
 abbrev pub IsThing : ℕ → (thing : Thing) → Grammar (Of thing)
-IsThing n (AMark mark) = One (sign mark)
-IsThing n ATel = One tel_word
-IsThing n AName = One name
-IsThing n APart = One part
-IsThing n AnArity = One arity
-IsThing n ASeparator = One separator
 IsThing n ASign = IsSign
 IsThing n AnExpr = IsExpr (suc n)
 IsThing n AnAtomItem = IsAtomItem n
@@ -147,11 +160,11 @@ IsThing n AFormula = IsFormula (suc n)
 IsThing n APlain = IsPlain n
 
 abbrev pub Produces : Type 0 → Type 1
-Produces A = Production Thing Of false A
+Produces A = Production Terminal WordOf Thing Of false A
 
 -- a sign alone, before a thing, and behind a thing; it gives no value
 abbrev pub alone : Mark → Produces (Unit {0})
-alone mark = given (AMark mark)
+alone mark = terminal (AMark mark)
 
 abbrev pub led : {A : Type 0} → Mark → Produces A → Produces A
 led mark p = led_by (AMark mark) p
@@ -159,12 +172,12 @@ led mark p = led_by (AMark mark) p
 abbrev pub ended : {A : Type 0} → Produces A → Mark → Produces A
 ended p mark = ended_by p (AMark mark)
 
-abbrev pub ended_from : {A : Type 0} → Production Thing Of true A → Mark → Produces A
+abbrev pub ended_from : {A : Type 0} → Production Terminal WordOf Thing Of true A → Mark → Produces A
 ended_from p mark = ended_from_by p (AMark mark)
 
 -- tel = "&" "tel" "{" formula "}"
 abbrev pub tel : Produces LitItem
-tel = made_of items.Tel (led marks.Ampersand (made_of behind (and (given ATel) (led marks.OpenBrace (ended (given AFormula) marks.CloseBrace)))))
+tel = made_of items.Tel (led marks.Ampersand (made_of behind (and (terminal ATel) (led marks.OpenBrace (ended (given AFormula) marks.CloseBrace)))))
 
 abbrev pub negated_of : Unit {0} × (Option (Unit {0}) × LitItem) → Literal
 negated_of (first, (second, item)) = literal (1 + count second) item
@@ -187,7 +200,7 @@ chain_of read = read.0 ∷ behind_all read.1
 
 -- body = literal { ("," | ";") literal }
 abbrev pub body : Produces (List Literal)
-body = made_of chain_of (and_on any_literal (many (and (given ASeparator) any_literal)))
+body = made_of chain_of (and_on any_literal (many (and (terminal ASeparator) any_literal)))
 
 abbrev pub body_of : Unit {0} × (Option (List Literal) × Unit {0}) → List Literal
 body_of (sign, (Some body, end)) = body
@@ -274,7 +287,7 @@ behind_facts fact (Some head) = or (made_of (fact_item fact) (alone marks.Stop))
 
 -- facts "." | atom tail
 abbrev pub IsFactOrRule : ℕ → Grammar Item
-IsFactOrRule n = After (means (IsThing n) facts) (λ fact. means (IsThing n) (behind_facts fact (head_of fact)))
+IsFactOrRule n = After (means word (IsThing n) facts) (λ fact. means word (IsThing n) (behind_facts fact (head_of fact)))
 
 -- choice = "{" atom "}"
 abbrev pub choice : Produces Head
@@ -296,21 +309,21 @@ constraint = made_of (rule_item heads.None) tail
 
 -- "#program" ("initial" | "dynamic" | "always" | "final") "."
 abbrev pub part_item : Produces Item
-part_item = made_of InPart (led marks.Program (ended (given APart) marks.Stop))
+part_item = made_of InPart (led marks.Program (ended (terminal APart) marks.Stop))
 
 abbrev pub const_of : List ℕ × Expr → Item
 const_of (name, value) = Says (kinds.Const name value)
 
 -- "#const" name "=" expr "."
 abbrev pub const_item : Produces Item
-const_item = made_of const_of (led marks.Const (and (given AName) (led marks.Equal (ended (given AnExpr) marks.Stop))))
+const_item = made_of const_of (led marks.Const (and (terminal AName) (led marks.Equal (ended (given AnExpr) marks.Stop))))
 
 abbrev pub signature_of : Option (Unit {0}) × (List ℕ × ℕ) → Signature
 signature_of (minus, (name, arity)) = record { negative = is_there minus; name = name; arity = arity }
 
 -- signature = [ "-" ] name "/" number
 abbrev pub signature : Produces Signature
-signature = made_of signature_of (and_from (perhaps (alone marks.Minus)) (and (given AName) (led marks.Slash (given AnArity))))
+signature = made_of signature_of (and_from (perhaps (alone marks.Minus)) (and (terminal AName) (led marks.Slash (terminal AnArity))))
 
 abbrev pub show_of : Option Signature → Item
 show_of shown = Says (kinds.Show shown)
@@ -324,7 +337,7 @@ other_item = or choice_rule (or constraint (or part_item (or const_item show_ite
 
 -- an item of a text
 abbrev pub IsItem : ℕ → Grammar Item
-IsItem n = Either (IsFactOrRule n) (means (IsThing n) other_item)
+IsItem n = Either (IsFactOrRule n) (means word (IsThing n) other_item)
 
 -- ---- texts
 

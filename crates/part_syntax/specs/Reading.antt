@@ -11,16 +11,16 @@ use Rattle.tel_rule.specs.declared.statements.Arg.{Arg}
 use Rattle.tel_rule.specs.declared.statements.Fact.{Fact}
 use Rattle.formula_syntax.specs.Points.{Word, Read, Reader}
 use Rattle.grammar_laws.specs.Points.{at, begins}
-use Rattle.grammar_laws.specs.Steps.{Got, Stuck, made, one, both, either, each, after, passes, or_also}
+use Rattle.grammar_laws.specs.Steps.{Got, Stuck, made, either, each, after, passes, or_also}
 use Rattle.formula_syntax.specs.Grammar.{name, leaf, product_op, sum_op, sign}
 use Rattle.formula_syntax.specs.Reading.{read_sign, read_expr, read_atom, read_formula, starts_atom, starts_flat, opens_value, opens_unary}
 use Rattle.grammar_laws.specs.Productions.{begun_by, reader}
-use Rattle.part_syntax.specs.Grammar.{separator, tel_word, part, arity, relation, compare_of, Item, Thing, AMark, ATel, AName, APart, AnArity, ASeparator, ASign, AnExpr, AnAtomItem, AnAtom, AFormula, APlain, Of, Produces, tel, negatable, negated, any_literal, body, tail, arg, tuple, tuples, facts, head_of, behind_facts, signature, other_item, Stated, afresh}
+use Rattle.part_syntax.specs.Grammar.{relation, Item, word, comparison, Thing, ASign, AnExpr, AnAtomItem, AnAtom, AFormula, APlain, Of, Produces, tel, negatable, negated, any_literal, body, tail, arg, tuple, tuples, facts, head_of, behind_facts, signature, other_item, Stated, afresh}
 
 -- ---- literals
 
 abbrev pub read_comparison : ℕ → Reader LitItem
-read_comparison n = made compare_of (both (read_expr (suc n)) (both (one relation) (read_expr (suc n))))
+read_comparison n = reader word (λ i w. false) (λ i. read_expr (suc n)) comparison
 
 abbrev pub read_atom_item : ℕ → Reader LitItem
 read_atom_item n = made items.Atom (read_atom (suc n))
@@ -56,12 +56,6 @@ starts_plain = or_also starts_atom starts_value
 
 -- the words that a thing begins with
 abbrev pub starts : Thing → Word → Bool
-starts (AMark mark) = passes (sign mark)
-starts ATel = passes tel_word
-starts AName = passes name
-starts APart = passes part
-starts AnArity = passes arity
-starts ASeparator = passes separator
 starts ASign = starts_atom
 starts AnExpr = starts_value
 starts AnAtomItem = starts_atom
@@ -70,12 +64,6 @@ starts AFormula = starts_unary
 starts APlain = starts_plain
 
 abbrev pub read_thing : ℕ → (thing : Thing) → Reader (Of thing)
-read_thing n (AMark mark) = one (sign mark)
-read_thing n ATel = one tel_word
-read_thing n AName = one name
-read_thing n APart = one part
-read_thing n AnArity = one arity
-read_thing n ASeparator = one separator
 read_thing n ASign = read_sign
 read_thing n AnExpr = read_expr (suc n)
 read_thing n AnAtomItem = read_atom_item n
@@ -84,7 +72,7 @@ read_thing n AFormula = read_formula (suc n)
 read_thing n APlain = read_plain n
 
 abbrev pub read_as : {A : Type 0} → Produces A → ℕ → Reader A
-read_as production n = reader starts (read_thing n) production
+read_as production n = reader word starts (read_thing n) production
 
 abbrev pub read_tel : ℕ → Reader LitItem
 read_tel n = read_as tel n
@@ -99,7 +87,7 @@ abbrev pub read_literal : ℕ → Reader Literal
 read_literal n = read_as any_literal n
 
 abbrev pub starts_literal : Word → Bool
-starts_literal = begun_by starts any_literal
+starts_literal = begun_by word starts any_literal
 
 abbrev pub read_body : ℕ → Reader (List Literal)
 read_body n = read_as body n
@@ -126,13 +114,13 @@ abbrev pub read_fact_or_rule : ℕ → Reader Item
 read_fact_or_rule n = after (read_facts n) (λ fact. read_behind n fact (head_of fact))
 
 abbrev pub starts_signature : Word → Bool
-starts_signature = begun_by starts signature
+starts_signature = begun_by word starts signature
 
 abbrev pub read_item : ℕ → Reader Item
 read_item n = either starts_atom (read_fact_or_rule n) (read_as other_item n)
 
 abbrev pub starts_item : Word → Bool
-starts_item = or_also starts_atom (begun_by starts other_item)
+starts_item = or_also starts_atom (begun_by word starts other_item)
 
 -- ---- texts
 
