@@ -1,6 +1,6 @@
 //! Clauses that are added where the trail goes back.
 
-ghost use Rattle.std.specs.Prelude.{◌≡◌, ℕ, ◌<◌, ◌≤◌, [], ◌∷◌, ◌++◌, IsTrue, IfOk, OnOk, OnErr, length};
+ghost use Rattle.std.specs.Prelude.{◌≡◌, ℕ, ◌+◌, ◌<◌, ◌≤◌, [], ◌∷◌, ◌++◌, IsTrue, IfOk, OnOk, OnErr, length};
 ghost use Rattle.clause_store.specs.Held.{clauses_in, is_clause};
 ghost use Rattle.clause_store.specs.Closure.{refutes, Absorbed};
 ghost use Rattle.watch_propagate.specs.Propagation.{IsFalseClause};
@@ -36,6 +36,8 @@ pub fn hold(
     ensures level { trail.new.level ≡ level }
     ensures entries { trail.new.entries ≡ back level trail.old.entries }
     ensures vars { trail.new.vars ≡ trail.old.vars }
+    ensures clause_room { store.old.clause_room ≤ store.new.clause_room + 1 }
+    ensures lit_room { store.old.lit_room ≤ store.new.lit_room + length lits.now }
     ensures ready { IsReady store.new trail.new }
     ensures way { KeepsWay trail.old trail.new }
 {

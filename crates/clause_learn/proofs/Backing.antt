@@ -27,7 +27,7 @@ spot_most top (entry ∷ older) v spot levels h =
     let a = levels.0 in
     ⊎_elim (λ (e : entry.lit.var ≡ v). let s = ap (λ (x : Spot). x.level) (some_spot (spot_of entry) spot (sym (here entry older v e) ∙ h)) in omega (arith, a, s)) (λ ne. let b = spot_most entry.level older v spot levels.1 (sym (there entry older v ne) ∙ h) in omega (arith, a, b)) (cases_eq entry.lit.var v)
 
-back_none : (level : ℕ) (entries : List Entry) (v : ℕ) → spot_in entries v ≡ None → spot_in (back level entries) v ≡ None
+pub back_none : (level : ℕ) (entries : List Entry) (v : ℕ) → spot_in entries v ≡ None → spot_in (back level entries) v ≡ None
 back_none level [] v h = refl
 back_none level (entry ∷ older) v h =
     let out = not_here entry older v h in

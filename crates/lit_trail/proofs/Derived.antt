@@ -40,7 +40,7 @@ In-decided (e ∷ older) entry i none =
     let rest = In-decided older entry r none in
     ⊎_elim (λ (t : is_decided e.reason ≡ true). subst (λ (xs : List Lit). In entry.lit xs) (sym (cond-true (is_decided e.reason) (e.lit ∷ decided_lits older) (decided_lits older) t)) (inr rest)) (λ (f : is_decided e.reason ≡ false). subst (λ (xs : List Lit). In entry.lit xs) (sym (cond-false (is_decided e.reason) (e.lit ∷ decided_lits older) (decided_lits older) f)) rest) (cases_Bool (is_decided e.reason))) i
 
-decided_hold : (entries : List Entry) (lit : Lit) → Apart entries → In lit (decided_lits entries) → holds entries lit ≡ true
+pub decided_hold : (entries : List Entry) (lit : Lit) → Apart entries → In lit (decided_lits entries) → holds entries lit ≡ true
 decided_hold [] lit apart i = absurd i
 decided_hold (entry ∷ older) lit apart i =
     let rest : In lit (decided_lits older) → holds (entry ∷ older) lit ≡ true = λ j. holds_on entry older lit apart.0 (decided_hold older lit apart.1 j) in

@@ -40,7 +40,7 @@ decided_up_to : (k : ℕ) (entries : List Entry) (lit : Lit) → In lit (decided
 decided_up_to k entries lit i =
     decided_of k (back (suc k) entries) lit (subst (λ (es : List Entry). In lit (decided_lits es)) (sym (back_back entries k (suc k) (omega arith))) i)
 
-below_all : (entries : List Entry) (top k : ℕ) → AreLevels top entries → list_all (λ (e : Entry). nat_lt e.level (suc k)) entries ≡ true → AreLevels k entries
+pub below_all : (entries : List Entry) (top k : ℕ) → AreLevels top entries → list_all (λ (e : Entry). nat_lt e.level (suc k)) entries ≡ true → AreLevels k entries
 below_all [] top k levels h = tt
 below_all (entry ∷ older) top k levels h =
     let p = and_parts (nat_lt entry.level (suc k)) (list_all (λ (e : Entry). nat_lt e.level (suc k)) older) h in
