@@ -11,13 +11,13 @@ use Rattle.grammar_laws.specs.Steps.{Unexpected, Stuck, one, both, each, maybe, 
 use Rattle.grammar_laws.proofs.Readers.{nothing}
 use Rattle.grammar_laws.proofs.Steady.{Steady, one-steady, one-takes}
 use Rattle.grammar_laws.proofs.Outcomes.{Family}
-use Rattle.grammar_laws.proofs.Nonterminals.{Lifts, Apart, one-lifts, either-lifts}
+use Rattle.grammar_laws.proofs.Lifting.{Lifts, Apart, one-lifts, either-lifts}
 use Rattle.grammar_laws.proofs.ReadBy.{Read_by, Opened_by, one-read, maybe-opened}
 use Rattle.grammar_laws.proofs.Sets.{LiesIn, nothing-lies, or-lies, apart-by}
 use Rattle.grammar_laws.proofs.Described.{Words, gone_on_by, begun_set, more_set, begun-lies, more-lies, reads-it, lifts-it}
 use Rattle.grammar_laws.proofs.Steadies.{Keeps, keeps-it}
 use Rattle.grammar_laws.proofs.Absent.{absent-it, alone-it}
-use Rattle.grammar_laws.proofs.Nests.{shut-read, shut-keeps, shut-absent, nest-read, nest-keeps, nest-lifts}
+use Rattle.grammar_laws.proofs.Nests.{shut-read, shut-keeps, shut-absent, nest-read, nest-keeps, nest-absent, nest-lifts}
 use Rattle.formula_syntax.specs.Points.{Word, Known, Grammar}
 use Rattle.formula_syntax.specs.Grammar.{leaf, name, sign, product_op, sum_op, word, Terminal, ALeaf, AProductOp, ASumOp, WordOf, meant, it, product, expr, deep_value, IsValue, IsExpr, primed, signed, args, atom, IsSign, IsAtom, flat_formula, formula, deep_formula, IsUnary, IsFormula}
 use Rattle.formula_syntax.specs.Reading.{read_by, read_product, read_args, opens_value, read_value, read_expr, read_sign, read_atom, starts_atom, starts_flat, opens_unary, read_flat, read_unary, read_formula}
@@ -65,16 +65,19 @@ value-keeps (suc n) =
     (reads-it value_words (λ i. IsValue n) (λ i. read_value n) (λ i. value-read n) deep_value refl) leaf-keeps
     (keeps-it value_words (λ i. IsValue n) (λ i. read_value n) (λ i. value-read n) (λ i. value-keeps n) deep_value refl)
 
-value-absent : (known : Known) (words : List Word) → begins starts_value words ≡ false → read_value zero (at known words) ≡ Stuck Unexpected words
+-- where no value begins none is read
+pub value-absent : (n : ℕ) (known : Known) (words : List Word) → begins starts_value words ≡ false → read_value n (at known words) ≡ Stuck Unexpected words
 unfolding read_value
-value-absent known words is = shut-absent (one leaf) (passes leaf) opens_value known words is
+value-absent zero known words is = shut-absent (one leaf) (passes leaf) opens_value known words is
+value-absent (suc n) known words is =
+    nest-absent (one leaf) (read_by (read_value n) deep_value) (passes leaf) opens_value known words (λ none. absent-it word (λ i. starts_value) (λ i. read_value n) known words (λ i absent. value-absent n known words absent) deep_value none) is
 
 value-lifts : (n : ℕ) → Lifts (IsValue n) (IsValue (suc n)) (read_value n) (read_value (suc n))
 unfolding IsValue read_value
 value-lifts zero =
     nest-lifts (One leaf) (One leaf) (meant (IsValue zero) deep_value) (one leaf) (one leaf) (read_by (read_value zero) deep_value) (passes leaf) opens_value (one-lifts leaf)
-    (λ known words is. absent-it word (λ i. starts_value) (λ i. read_value zero) known words (λ i none. value-absent known words none) deep_value is)
-    (λ known w is. alone-it word (λ i. starts_value) (λ i. read_value zero) (λ i later. value-absent later [] refl) known w deep_value refl is)
+    (λ known words is. absent-it word (λ i. starts_value) (λ i. read_value zero) known words (λ i none. value-absent zero known words none) deep_value is)
+    (λ known w is. alone-it word (λ i. starts_value) (λ i. read_value zero) (λ i later. value-absent zero later [] refl) known w deep_value refl is)
 value-lifts (suc n) =
     either-lifts (One leaf) (One leaf) (meant (IsValue n) deep_value) (meant (IsValue (suc n)) deep_value) (passes leaf) (one leaf) (one leaf) (read_by (read_value n) deep_value) (read_by (read_value (suc n)) deep_value) (one-lifts leaf)
     (lifts-it value_words (λ i. IsValue n) (λ i. IsValue (suc n)) (λ i. read_value n) (λ i. read_value (suc n)) (λ i. value-lifts n) (λ i. value-read (suc n)) deep_value refl)
@@ -102,6 +105,9 @@ expr-steady n = (expr-keeps n).0
 
 pub expr-lifts : (n : ℕ) → Lifts (IsExpr n) (IsExpr (suc n)) (read_expr n) (read_expr (suc n))
 expr-lifts n = lifts-it value_words (λ i. IsValue n) (λ i. IsValue (suc n)) (λ i. read_value n) (λ i. read_value (suc n)) (λ i. value-lifts n) (λ i. value-read (suc n)) (expr it) refl
+
+pub expr-absent : (n : ℕ) (known : Known) (words : List Word) → begins starts_value words ≡ false → read_expr n (at known words) ≡ Stuck Unexpected words
+expr-absent n known words is = absent-it word (λ i. starts_value) (λ i. read_value n) known words (λ i none. value-absent n known words none) (expr it) is
 
 pub expr-family : Family IsExpr read_expr more_expr
 expr-family = record {
@@ -198,16 +204,18 @@ unary-keeps (suc n) =
     (reads-it unary_words (λ i. IsUnary n) (λ i. read_unary n) (λ i. unary-read n) deep_formula refl) (flat-keeps (suc n))
     (keeps-it unary_words (λ i. IsUnary n) (λ i. read_unary n) (λ i. unary-read n) (λ i. unary-keeps n) deep_formula refl)
 
-unary-absent : (known : Known) (words : List Word) → begins starts_unary words ≡ false → read_unary zero (at known words) ≡ Stuck Unexpected words
+unary-absent : (n : ℕ) (known : Known) (words : List Word) → begins starts_unary words ≡ false → read_unary n (at known words) ≡ Stuck Unexpected words
 unfolding read_unary
-unary-absent known words is = shut-absent (read_flat zero) starts_flat opens_unary known words is
+unary-absent zero known words is = shut-absent (read_flat zero) starts_flat opens_unary known words is
+unary-absent (suc n) known words is =
+    nest-absent (read_flat (suc n)) (read_by (read_unary n) deep_formula) starts_flat opens_unary known words (λ none. absent-it word (λ i. starts_unary) (λ i. read_unary n) known words (λ i absent. unary-absent n known words absent) deep_formula none) is
 
 unary-lifts : (n : ℕ) → Lifts (IsUnary n) (IsUnary (suc n)) (read_unary n) (read_unary (suc n))
 unfolding IsUnary read_unary
 unary-lifts zero =
     nest-lifts (IsFlat zero) (IsFlat (suc zero)) (meant (IsUnary zero) deep_formula) (read_flat zero) (read_flat (suc zero)) (read_by (read_unary zero) deep_formula) starts_flat opens_unary (flat-lifts zero)
-    (λ known words is. absent-it word (λ i. starts_unary) (λ i. read_unary zero) known words (λ i none. unary-absent known words none) deep_formula is)
-    (λ known w is. alone-it word (λ i. starts_unary) (λ i. read_unary zero) (λ i later. unary-absent later [] refl) known w deep_formula refl is)
+    (λ known words is. absent-it word (λ i. starts_unary) (λ i. read_unary zero) known words (λ i none. unary-absent zero known words none) deep_formula is)
+    (λ known w is. alone-it word (λ i. starts_unary) (λ i. read_unary zero) (λ i later. unary-absent zero later [] refl) known w deep_formula refl is)
 unary-lifts (suc n) =
     either-lifts (IsFlat (suc n)) (IsFlat (suc (suc n))) (meant (IsUnary n) deep_formula) (meant (IsUnary (suc n)) deep_formula) starts_flat (read_flat (suc n)) (read_flat (suc (suc n))) (read_by (read_unary n) deep_formula) (read_by (read_unary (suc n)) deep_formula) (flat-lifts (suc n))
     (lifts-it unary_words (λ i. IsUnary n) (λ i. IsUnary (suc n)) (λ i. read_unary n) (λ i. read_unary (suc n)) (λ i. unary-lifts n) (λ i. unary-read (suc n)) deep_formula refl)

@@ -9,7 +9,7 @@ use Rattle.tel_rule.specs.declared.formulas.BinaryOp.TheVariants as binaries
 use Rattle.tel_term.specs.declared.exprs.SumOp.TheVariants as sums
 use Rattle.tel_term.specs.declared.exprs.ProductOp.TheVariants as products
 use Rattle.grammar_laws.specs.Steps.{passes}
-use Rattle.grammar_laws.proofs.Nonterminals.{Apart, Passing}
+use Rattle.grammar_laws.proofs.Lifting.{Apart, Passing}
 use Rattle.grammar_laws.proofs.Sets.{member, none_of, LiesIn, apart-by}
 use Rattle.grammar_laws.proofs.Described.{Words}
 use Rattle.formula_syntax.specs.declared.marks.Mark.{Mark}

@@ -28,7 +28,7 @@ use Rattle.formula_syntax.specs.declared.marks.Mark.TheVariants as marks
 use Rattle.formula_syntax.specs.Points.{Word, Known, Grammar}
 use Rattle.formula_syntax.specs.Senses.{Sense, Name, Variable, Blank, Number, Str, Sign, sense, number_of, string_of}
 use Rattle.grammar_laws.specs.Shapes.{One, Either}
-use Rattle.grammar_laws.specs.Productions.{Production, terminal, given, made_of, and, and_on, and_from, or, many, few, perhaps, means}
+use Rattle.grammar_laws.specs.Productions.{Production, terminal, given, led, ended, made_of, and, and_on, and_from, or, many, few, perhaps, means}
 
 -- ---- words
 
@@ -262,15 +262,9 @@ abbrev pub sum_of : Expr × List (SumOp × Expr) → Expr
 sum_of (first, []) = first
 sum_of (first, next ∷ more) = exprs.Sum first (next ∷ more)
 
--- what stands between two words
-abbrev pub between : {A B C : Type 0} → A × (B × C) → B
-between three = three.1.0
-
-abbrev pub negative_of : {A : Type 0} → A × Expr → Expr
-negative_of pair = exprs.Minus pair.1
-
+-- "(" .. ")"
 abbrev pub bracketed : {R A : Type 0} → Over R A → Over R A
-bracketed p = made_of between (and (alone marks.Open) (and p (alone marks.Close)))
+bracketed p = led (AMark marks.Open) (ended p (AMark marks.Close))
 
 -- product = value { ("*" | "/" | "\\") value }
 abbrev pub product : {R : Type 0} → Over R Expr → Over R Expr
@@ -284,7 +278,7 @@ abbrev pub expr : {R : Type 0} → Over R Expr → Over R Expr
 expr value = sum (product value)
 
 abbrev pub negative : {R : Type 0} → Over R Expr → Over R Expr
-negative value = made_of negative_of (and (alone marks.Minus) value)
+negative value = made_of exprs.Minus (led (AMark marks.Minus) value)
 
 -- "-" value | "(" expr ")"
 abbrev pub deep_value : Over Expr Expr
@@ -344,11 +338,11 @@ abbrev pub IsSign : Grammar SignRead
 IsSign = meant (One leaf) signed
 
 abbrev pub atom_of : SignRead × Option (List Expr) → Atom
-atom_of (sign, args) = record {
-  negative = is_there sign.0;
-  before = count sign.1.0;
-  name = sign.1.1.0;
-  after = count sign.1.1.1;
+atom_of ((minus, (before, (name, after))), args) = record {
+  negative = is_there minus;
+  before = count before;
+  name = name;
+  after = count after;
   args = args_or_none args;
 }
 
@@ -361,23 +355,20 @@ IsAtom levels = meant (IsExpr levels) (atom it)
 
 -- ---- formulas
 
-abbrev pub constant_of : {A : Type 0} → A × ConstOp → Formula
-constant_of pair = formulas.Const pair.1
-
 -- constant = "&" ("true" | "false" | "initial" | "final")
 abbrev pub constant : {R : Type 0} → Over R Formula
-constant = made_of constant_of (and (alone marks.Ampersand) (terminal AConst))
+constant = made_of formulas.Const (led (AMark marks.Ampersand) (terminal AConst))
 
 -- constant | atom
 abbrev pub flat_formula : Over Expr Formula
 flat_formula = or constant (made_of formulas.Atom (atom it))
 
 abbrev pub prefixed : UnaryOp × Formula → Formula
-prefixed pair = formulas.Unary pair.0 pair.1
+prefixed (op, formula) = formulas.Unary op formula
 
 abbrev pub paired : Formula × Option (BinaryOp × Formula) → Formula
 paired (first, None) = first
-paired (first, Some second) = formulas.Binary second.0 first second.1
+paired (first, Some (op, second)) = formulas.Binary op first second
 
 -- pair = unary [ ("<?" | "<*" | ">?" | ">*") unary ]
 abbrev pub pair : {R : Type 0} → Over R Formula → Over R Formula

@@ -7,7 +7,7 @@ use Rattle.tel_rule.specs.declared.formulas.Formula.{Formula}
 use Rattle.grammar_laws.specs.Steps.{one, either, too_deep, passes}
 use Rattle.grammar_laws.specs.Productions.{begun_by, reader}
 use Rattle.formula_syntax.specs.Points.{Word, Reader}
-use Rattle.formula_syntax.specs.Grammar.{leaf, SignRead, word, Over, it, bracketed, product, sum, negative, deep_value, args, signed, atom, constant, flat_formula, pair, conjunction, disjunction, arrow, behind_prefix, deep_formula}
+use Rattle.formula_syntax.specs.Grammar.{leaf, SignRead, word, Over, it, bracketed, product, sum, negative, deep_value, args, signed, atom, flat_formula, pair, conjunction, disjunction, arrow, behind_prefix, deep_formula}
 
 -- the reader of a production, for the one of the given things; and the words that it begins with, where the first is its own
 abbrev pub read_by : {R A : Type 0} → Reader R → Over R A → Reader A
@@ -53,9 +53,6 @@ abbrev pub read_atom : ℕ → Reader Atom
 read_atom levels = read_by (read_expr levels) (atom it)
 
 -- ---- formulas
-
-abbrev pub read_constant : Reader Formula
-read_constant = read_by (one leaf) constant
 
 abbrev pub read_prefixed : Reader Formula → Reader Formula
 read_prefixed read = read_by read (behind_prefix it)

@@ -6,7 +6,7 @@ use Rattle.grammar_laws.specs.Shapes.{Grammar, One, Then, Made}
 use Rattle.grammar_laws.specs.Steps.{Reader, made, one, both, passes, or_also}
 use Rattle.grammar_laws.specs.Productions.{Production, terminal, given, led, ended, ended_from, made_of, and, and_on, and_from, or, many, few, perhaps, means, begun_by, reader, first_of, behind}
 use Rattle.grammar_laws.proofs.Readers.{Near, nothing}
-use Rattle.grammar_laws.proofs.Nonterminals.{Lifts, Apart, Passing, one-lifts, made-lifts, then-lifts, either-lifts, maybe-lifts}
+use Rattle.grammar_laws.proofs.Lifting.{Lifts, Apart, Passing, one-lifts, made-lifts, then-lifts, either-lifts, maybe-lifts}
 use Rattle.grammar_laws.proofs.ReadBy.{Read_by, Opened_by, one-read, operand-read, made-read, then-read, then-read_on, then-read_from, either-read, maybe-opened, each-opened, at_most-opened, each-lifts, at_most-lifts}
 use Rattle.grammar_laws.proofs.Sets.{LiesIn, member, none_of, and-first, and-second, or-lies, apart-by}
 

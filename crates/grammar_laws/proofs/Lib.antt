@@ -5,8 +5,8 @@ pub mod Exclusive
 pub mod Fronts
 pub mod Gains
 pub mod Levels
+pub mod Lifting
 pub mod Nests
-pub mod Nonterminals
 pub mod Outcomes
 pub mod ReadBy
 pub mod Readers

@@ -7,7 +7,7 @@ use Rattle.grammar_laws.proofs.Readers.{either-got, too_deep-got, flat-reads, wi
 use Rattle.grammar_laws.proofs.Absent.{not-first, not-second}
 use Rattle.grammar_laws.proofs.Levels.{flat-raises}
 use Rattle.grammar_laws.proofs.Steady.{flat-steady, flat-takes, either-steady, either-takes}
-use Rattle.grammar_laws.proofs.Nonterminals.{Lifts, Apart}
+use Rattle.grammar_laws.proofs.Lifting.{Lifts, Apart}
 use Rattle.grammar_laws.proofs.ReadBy.{Read_by, either-read}
 use Rattle.grammar_laws.proofs.Steadies.{Keeps}
 
@@ -47,3 +47,7 @@ pub shut-absent : {Word Known A : Type 0} (read : Reader Word Known A) (starts o
 shut-absent {A = A} read starts opens known words is =
     either-got starts read (too_deep opens) (at known words) false (not-first starts opens words is)
     ∙ too_deep-got {A = A} opens (at known words) false (not-second starts opens words is)
+
+pub nest-absent : {Word Known A : Type 0} (read deep : Reader Word Known A) (starts opens : Word → Bool) (known : Known) (words : List Word) → (begins opens words ≡ false → deep (at known words) ≡ Stuck Unexpected words) → begins (or_also starts opens) words ≡ false → either starts read deep (at known words) ≡ Stuck Unexpected words
+nest-absent read deep starts opens known words none is =
+    either-got starts read deep (at known words) false (not-first starts opens words is) ∙ none (not-second starts opens words is)

@@ -6,7 +6,7 @@ use Rattle.grammar_laws.specs.Steps.{Reader, made, one, both, either, at_most, e
 use Rattle.grammar_laws.proofs.Dependents.{after-reads, after-starts}
 use Rattle.grammar_laws.proofs.Readers.{Near, Reads, Starts, Opens, nothing, one-reads, one-starts, made-reads, made-starts, both-reads, both-reads_on, both-starts, both-starts_on, either-reads, either-starts, maybe-reads, maybe-opens, at_most-reads, at_most-opens, each-reads, each-opens}
 use Rattle.grammar_laws.proofs.Levels.{each-raises, at_most-raises, after-raises}
-use Rattle.grammar_laws.proofs.Nonterminals.{Known_by, Lifts, Apart, Passing, each-wider}
+use Rattle.grammar_laws.proofs.Lifting.{Lifts, Apart, Passing, each-wider}
 
 module _ {Word Known : Type 0} where
   pub record Read_by {A : Type 0} (F : Grammar Word Known A) (read : Reader Word Known A) (starts more : Word → Bool) : Type 0 where
@@ -17,9 +17,6 @@ module _ {Word Known : Type 0} where
   pub record Opened_by {A : Type 0} (F : Grammar Word Known A) (read : Reader Word Known A) (starts more : Word → Bool) : Type 0 where
     pub reads : Reads F read more
     pub opens : Opens F starts
-
-  pub known-read : {A : Type 0} (F : Grammar Word Known A) (read : Reader Word Known A) (starts more : Word → Bool) → Known_by F read starts more → Read_by F read starts more
-  known-read F read starts more k = record { reads = k.reads; begun = k.begun }
 
   pub one-read : {A : Type 0} (value : Word → Option (Known → A × Known)) → Passing value → Read_by (One value) (one value) (passes value) nothing
   one-read value p = record { reads = one-reads value p.word p.make p.gives; begun = one-starts value }

@@ -3,7 +3,7 @@ use Rattle.std.proofs.Common.{◌≡◌, ℕ, Bool, true, false, not, List, [], 
 use Rattle.std.specs.Prelude.{◌⊎◌, ◌==◌}
 use Rattle.std.proofs.lemmas.Bool.{cases_Bool, false≢true, eqb-true}
 use Rattle.grammar_laws.proofs.Readers.{nothing}
-use Rattle.grammar_laws.proofs.Nonterminals.{Apart}
+use Rattle.grammar_laws.proofs.Lifting.{Apart}
 
 abbrev pub member : ℕ → List ℕ → Bool
 member n [] = false

@@ -6,20 +6,21 @@ use Rattle.std.proofs.lemmas.Bool.{cases_Bool, false≢true}
 use Rattle.tel_rule.specs.declared.statements.LitItem.{LitItem}
 use Rattle.tel_rule.specs.declared.statements.LitItem.TheVariants as items
 use Rattle.tel_term.specs.declared.exprs.Expr.{Expr}
+use Rattle.tel_term.specs.declared.exprs.Expr.TheVariants as exprs
 use Rattle.formula_syntax.specs.declared.marks.Mark.TheVariants as marks
 use Rattle.formula_syntax.specs.Points.{Word, Known, Point, Grammar, Read, Reader}
 use Rattle.grammar_laws.specs.Points.{at, begins}
 use Rattle.formula_syntax.specs.Senses.{Sense, Name, Variable, Blank, Number, Str, Sign, sense}
 use Rattle.grammar_laws.specs.Shapes.{One, Then, Each, Maybe}
 use Rattle.grammar_laws.specs.Steps.{Unexpected, Deep, Got, Stuck, rest_of, and_then, give, map_read, made, one, both, each, maybe, passes, or_also}
-use Rattle.formula_syntax.specs.Grammar.{by_itself, leaf, leaf_of, name, name_of, product_op, product_op_of, sum_op, sum_op_of, negative_of, product_of, sum_of, SignRead, IsSign, atom_of, AMark, ALeaf, AName, meant, it, product, args as arguments, IsValue, IsExpr, IsAtom, sign, is_sign, plain}
+use Rattle.formula_syntax.specs.Grammar.{by_itself, leaf, leaf_of, name, name_of, product_op, product_op_of, sum_op, sum_op_of, product_of, sum_of, SignRead, IsSign, atom_of, AMark, ALeaf, AName, meant, it, product, args as arguments, IsValue, IsExpr, IsAtom, sign, is_sign, plain}
 use Rattle.formula_syntax.specs.Reading.{read_value, read_product, read_negative, read_expr, read_sign, read_args, read_atom, starts_atom}
 use Rattle.grammar_laws.proofs.Readers.{head, one-starts_in, Near, Reads, begins-head, begins-front, rest-map, either-got, goes-inl, goes-inr, framed-inl, framed-inr, ends-first, ends-second, either-starts, not-ends}
 use Rattle.grammar_laws.proofs.Levels.{Deeper, Raised}
-use Rattle.grammar_laws.proofs.Nonterminals.{Lifts, made-lifts}
+use Rattle.grammar_laws.proofs.Lifting.{Lifts, made-lifts}
 use Rattle.grammar_laws.proofs.ReadBy.{Read_by, made-read}
 use Rattle.grammar_laws.proofs.Described.{reads-it, lifts-it}
-use Rattle.grammar_laws.specs.Productions.{terminal, given, and}
+use Rattle.grammar_laws.specs.Productions.{terminal, given, and, behind}
 use Rattle.formula_syntax.proofs.Terminals.{words-apart}
 use Rattle.formula_syntax.proofs.Families.{starts_value, more_expr, more_atom, value-read, expr-read, expr-lifts, products-read, sums-read, prime-read, primed-read, args-read, atom-read, atom-lifts}
 use Rattle.part_syntax.specs.Grammar.{relation, relation_of, compare_of, ARelation, comparison, IsAtomItem, IsComparison, IsPlain}
@@ -223,7 +224,8 @@ value-negative : (n : ℕ) (known : Known) (word : Word) (words : List Word) →
 unfolding read_value
 value-negative n known word words is s =
     let l : passes leaf word ≡ false = words-apart (AMark marks.Minus) ALeaf refl word is in
-    let a : rest_of (read_negative (read_value n) (at known (word ∷ words))) ≡ rest_of (both (one (sign marks.Minus)) (read_value n) (at known (word ∷ words))) = rest-map negative_of (both (one (sign marks.Minus)) (read_value n) (at known (word ∷ words))) in
+    let a : rest_of (read_negative (read_value n) (at known (word ∷ words))) ≡ rest_of (both (one (sign marks.Minus)) (read_value n) (at known (word ∷ words))) =
+    rest-map exprs.Minus (made behind (both (one (sign marks.Minus)) (read_value n)) (at known (word ∷ words))) ∙ rest-map behind (both (one (sign marks.Minus)) (read_value n) (at known (word ∷ words))) in
     let b : rest_of (both (one (sign marks.Minus)) (read_value n) (at known (word ∷ words))) ≡ rest_of (read_value n (at (s.value known).1 words)) = rw s.is (rest-map (λ (e : Expr). let pair : Unit {0} × Expr = ((s.value known).0, e) in pair) (read_value n (at (s.value known).1 words))) in
     rw (l, is) (a ∙ b)
 
@@ -447,8 +449,8 @@ unfolding IsValue
 value-comparing zero from value to o on = one-comparing leaf from value to o (λ word is. leaf-comparing word to.words is on)
 value-comparing (suc n) from value to (inl o) on = one-comparing leaf from value to o (λ word is. leaf-comparing word to.words is on)
 value-comparing (suc n) from value to (inr (inl m)) on =
-    let t = m.reads in
-    one-comparing (sign marks.Minus) from m.of.0 t.middle t.first (λ word is. minus-comparing word t.middle.words is (value-comparing n t.middle m.of.1 to t.second on).behind)
+    let t = m.reads.reads in
+    one-comparing (sign marks.Minus) from m.reads.of.0 t.middle t.first (λ word is. minus-comparing word t.middle.words is (value-comparing n t.middle m.reads.of.1 to t.second on).behind)
 value-comparing (suc n) from value to (inr (inr m)) on =
     let t = m.reads in
     one-comparing (sign marks.Open) from m.of.0 t.middle t.first (λ word is. open-comparing word t.middle.words is)

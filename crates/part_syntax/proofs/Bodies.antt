@@ -1,30 +1,22 @@
 -- Where no literal begins, no body is read; and a body and its stop behind `:-`.
 use Rattle.formula_syntax.specs.declared.marks.Mark.TheVariants as marks
 use Rattle.std.proofs.Common.{◌≡◌, ℕ, suc, Bool, true, false, List, [], ◌∷◌, Option, Some, None, refl, ap, ◌∙◌, ◌||◌}
-use Rattle.std.specs.Prelude.{is_some}
-use Rattle.tel_term.specs.declared.exprs.Expr.{Expr}
 use Rattle.tel_rule.specs.declared.statements.Literal.{Literal}
 use Rattle.formula_syntax.specs.Points.{Word, Known, Point, Read}
 use Rattle.grammar_laws.specs.Points.{at, begins}
-use Rattle.grammar_laws.specs.Steps.{Unexpected, Got, Stuck, and_then, map_read, made, one_made, one, both, either, maybe, passes, or_also}
-use Rattle.formula_syntax.specs.Grammar.{leaf, name, between, sign}
-use Rattle.formula_syntax.specs.Reading.{read_value, read_expr, read_negative, read_bracketed, read_sum, read_product, opens_value, starts_atom}
+use Rattle.grammar_laws.specs.Steps.{Unexpected, Got, Stuck, and_then, map_read, made, one, both, either, maybe, passes, or_also}
+use Rattle.formula_syntax.specs.Grammar.{name, sign}
+use Rattle.formula_syntax.specs.Reading.{starts_atom}
 use Rattle.grammar_laws.proofs.Readers.{either-got}
-use Rattle.part_syntax.specs.Grammar.{literal, body_of}
+use Rattle.grammar_laws.proofs.Absent.{one-absent, not-first, not-second}
+use Rattle.formula_syntax.proofs.Families.{expr-absent}
+use Rattle.part_syntax.specs.Grammar.{behind_nots, body_of}
 use Rattle.part_syntax.specs.Reading.{compares, read_tel, read_plain, read_negated, read_literal, read_body, read_tail, starts_literal, starts_plain, starts_value}
 use Rattle.grammar_laws.specs.Productions.{first_of}
 use Rattle.part_syntax.specs.Given.{body_or_none}
 
-none_of : {A : Type 0} (o : Option A) → is_some o ≡ false → o ≡ None
-none_of None is = refl
-none_of (Some x) is = absurd cc
-
-one_none_in : {A : Type 0} (value : Word → Option (Known → A × Known)) (known : Known) (words : List Word) → begins (passes value) words ≡ false → one value (at known words) ≡ Stuck Unexpected words
-one_none_in value known [] is = refl
-one_none_in {A = A} value known (word ∷ words) is = ap (λ (o : Option (Known → A × Known)). one_made o known word words) (none_of (value word) is)
-
 pub one_none : {A : Type 0} (value : Word → Option (Known → A × Known)) (from : Point) → begins (passes value) from.words ≡ false → one value from ≡ Stuck Unexpected from.words
-one_none value from is = one_none_in value from.known from.words is
+one_none value from is = one-absent value from.known from.words is
 
 or_first : (a b : Bool) → (a || b) ≡ false → a ≡ false
 or_first true b is = is
@@ -33,28 +25,6 @@ or_first false b is = refl
 or_second : (a b : Bool) → (a || b) ≡ false → b ≡ false
 or_second true b is = absurd cc
 or_second false b is = is
-
-pub neither_first : (f g : Word → Bool) (words : List Word) → begins (or_also f g) words ≡ false → begins f words ≡ false
-neither_first f g [] is = refl
-neither_first f g (word ∷ words) is = or_first (f word) (g word) is
-
-pub neither_second : (f g : Word → Bool) (words : List Word) → begins (or_also f g) words ≡ false → begins g words ≡ false
-neither_second f g [] is = refl
-neither_second f g (word ∷ words) is = or_second (f word) (g word) is
-
-value_none : (n : ℕ) (from : Point) → begins (passes leaf) from.words ≡ false → begins opens_value from.words ≡ false → read_value (suc n) from ≡ Stuck Unexpected from.words
-unfolding read_value
-value_none n from flat opens =
-    let no_minus = neither_first (passes (sign marks.Minus)) (passes (sign marks.Open)) from.words opens in
-    let no_open = one_none (sign marks.Open) from (neither_second (passes (sign marks.Minus)) (passes (sign marks.Open)) from.words opens) in
-    either-got (passes leaf) (one leaf) (either (passes (sign marks.Minus)) (read_negative (read_value n)) (read_bracketed (read_sum (read_product (read_value n))))) from false flat
-    ∙ either-got (passes (sign marks.Minus)) (read_negative (read_value n)) (read_bracketed (read_sum (read_product (read_value n)))) from false no_minus
-    ∙ ap (λ (x : Read (Unit {0})). map_read between (and_then x (λ (a : Unit {0}) (to : Point). map_read (λ (b : Expr × Unit {0}). (a, b)) (both (read_sum (read_product (read_value n))) (one (sign marks.Close)) to)))) no_open
-
-expr_none : (n : ℕ) (from : Point) → begins starts_value from.words ≡ false → read_expr (suc n) from ≡ Stuck Unexpected from.words
-expr_none n from none =
-    let v = value_none n from (neither_first (passes leaf) opens_value from.words none) (neither_second (passes leaf) opens_value from.words none) in
-    rw v refl
 
 compares_is : (word : Word) (words : List Word) → passes (sign marks.Minus) word ≡ false → passes name word ≡ false → passes (sign marks.Prime) word ≡ false → compares (word ∷ words) ≡ true
 unfolding compares
@@ -67,21 +37,21 @@ plain_end n known = refl
 plain_none_in : (n : ℕ) (known : Known) (words : List Word) → begins starts_plain words ≡ false → read_plain n (at known words) ≡ Stuck Unexpected words
 plain_none_in n known [] none = plain_end n known
 plain_none_in n known (word ∷ words) none =
-    let atom = neither_first starts_atom starts_value (word ∷ words) none in
-    let value = neither_second starts_atom starts_value (word ∷ words) none in
+    let atom = not-first starts_atom starts_value (word ∷ words) none in
+    let value = not-second starts_atom starts_value (word ∷ words) none in
     let m = or_first (passes (sign marks.Minus) word) (passes (sign marks.Prime) word || passes name word) atom in
     let more = or_second (passes (sign marks.Minus) word) (passes (sign marks.Prime) word || passes name word) atom in
     let c = compares_is word words m (or_second (passes (sign marks.Prime) word) (passes name word) more) (or_first (passes (sign marks.Prime) word) (passes name word) more) in
-    let e = expr_none n (at known (word ∷ words)) value in
+    let e = expr-absent (suc n) known (word ∷ words) value in
     rw (c, e) refl
 
 literal_none : (n : ℕ) (from : Point) → begins starts_literal from.words ≡ false → read_literal n from ≡ Stuck Unexpected from.words
 literal_none n from none =
-    let no_not = neither_first (passes (sign marks.Not)) (or_also (passes (sign marks.Ampersand)) starts_plain) from.words none in
-    let more = neither_second (passes (sign marks.Not)) (or_also (passes (sign marks.Ampersand)) starts_plain) from.words none in
-    let no_tel = neither_first (passes (sign marks.Ampersand)) starts_plain from.words more in
-    let plain = plain_none_in n from.known from.words (neither_second (passes (sign marks.Ampersand)) starts_plain from.words more) in
-    either-got (passes (sign marks.Not)) (read_negated n) (made (literal 0) (either (passes (sign marks.Ampersand)) (read_tel n) (read_plain n))) from false no_not ∙ ap (map_read (literal 0)) (either-got (passes (sign marks.Ampersand)) (read_tel n) (read_plain n) from false no_tel ∙ plain)
+    let no_not = not-first (passes (sign marks.Not)) (or_also (passes (sign marks.Ampersand)) starts_plain) from.words none in
+    let more = not-second (passes (sign marks.Not)) (or_also (passes (sign marks.Ampersand)) starts_plain) from.words none in
+    let no_tel = not-first (passes (sign marks.Ampersand)) starts_plain from.words more in
+    let plain = plain_none_in n from.known from.words (not-second (passes (sign marks.Ampersand)) starts_plain from.words more) in
+    either-got (passes (sign marks.Not)) (read_negated n) (made (behind_nots 0) (either (passes (sign marks.Ampersand)) (read_tel n) (read_plain n))) from false no_not ∙ ap (map_read (behind_nots 0)) (either-got (passes (sign marks.Ampersand)) (read_tel n) (read_plain n) from false no_tel ∙ plain)
 
 pub body_none : (n : ℕ) (from : Point) → begins starts_literal from.words ≡ false → read_body n from ≡ Stuck Unexpected from.words
 body_none n from none = rw (literal_none n from none) refl

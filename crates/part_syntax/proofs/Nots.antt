@@ -6,14 +6,14 @@ use Rattle.tel_rule.specs.declared.statements.Literal.{Literal}
 use Rattle.formula_syntax.specs.Points.{Point, Read, Reader}
 use Rattle.grammar_laws.specs.Steps.{Got, Stuck, and_then, map_read, made, one, both, maybe, passes}
 use Rattle.formula_syntax.specs.Grammar.{count, sign}
-use Rattle.part_syntax.specs.Grammar.{literal, negated_of}
+use Rattle.part_syntax.specs.Grammar.{behind_nots, negated_of}
 use Rattle.part_syntax.specs.Reading.{read_negated, read_item_of}
 
 nots_then : Read (Option (Unit {0})) → Reader LitItem → Read (Option (Unit {0}) × LitItem)
 nots_then out second = and_then out (λ (a : Option (Unit {0})) (to : Point). map_read (λ (b : LitItem). (a, b)) (second to))
 
 abbrev literal_of : ℕ → LitItem → Literal
-literal_of nots item = literal (1 + nots) item
+literal_of nots item = behind_nots (1 + nots) item
 
 two_steps : (out : Read (Option (Unit {0}))) (second : Reader LitItem) (nots : ℕ) (middle : Point) → map_read count out ≡ Got nots middle → map_read negated_of (map_read (λ (b : Option (Unit {0}) × LitItem). (tt, b)) (nots_then out second)) ≡ map_read (literal_of nots) (second middle)
 unfolding nots_then

@@ -8,7 +8,7 @@ use Rattle.grammar_laws.specs.Steps.{passes, or_also}
 use Rattle.formula_syntax.specs.Grammar.{sign}
 use Rattle.formula_syntax.specs.Reading.{starts_atom}
 use Rattle.grammar_laws.proofs.Readers.{nothing, wider-starts}
-use Rattle.grammar_laws.proofs.Nonterminals.{Lifts, Apart, either-lifts}
+use Rattle.grammar_laws.proofs.Lifting.{Lifts, Apart, either-lifts}
 use Rattle.part_syntax.specs.Grammar.{word, alone, Produces, AnAtom, IsThing, facts, head_of, behind_facts, other_item, IsFactOrRule, IsItem}
 use Rattle.grammar_laws.specs.Productions.{given, or, means, begun_by}
 use Rattle.part_syntax.specs.Reading.{read_thing, read_as, read_facts, read_behind, read_fact_or_rule, read_item, starts, starts_item}

@@ -8,7 +8,7 @@ use Rattle.grammar_laws.specs.Points.{at, begins}
 use Rattle.grammar_laws.specs.Steps.{Why, Unexpected, Deep, Got, Stuck, rest_of, with_rest, or_also}
 use Rattle.grammar_laws.proofs.Readers.{head, ends, Near, Framed, Goes, Lives, Reads, nothing}
 use Rattle.grammar_laws.proofs.Levels.{Raised}
-use Rattle.grammar_laws.proofs.Nonterminals.{Lifts}
+use Rattle.grammar_laws.proofs.Lifting.{Lifts}
 use Rattle.part_syntax.specs.Grammar.{Item, IsItem, Stated, IsStated, IsText, afresh}
 use Rattle.part_syntax.specs.Reading.{read_item, starts_item, place_at, noted, read_stated, read_text}
 use Rattle.grammar_laws.proofs.ReadBy.{Read_by, each-opened, each-lifts}

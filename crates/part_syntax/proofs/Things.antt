@@ -2,7 +2,7 @@
 use Rattle.std.proofs.Common.{ℕ, suc, Bool, List, ◌++◌}
 use Rattle.tel_term.specs.declared.exprs.Expr.{Expr}
 use Rattle.grammar_laws.specs.Steps.{passes, or_also}
-use Rattle.grammar_laws.proofs.Nonterminals.{Lifts}
+use Rattle.grammar_laws.proofs.Lifting.{Lifts}
 use Rattle.grammar_laws.proofs.ReadBy.{Read_by}
 use Rattle.grammar_laws.proofs.Sets.{LiesIn, or-lies}
 use Rattle.grammar_laws.proofs.Described.{Words, begun_set, more_set, begun-lies, more-lies}

@@ -6,7 +6,7 @@ use Rattle.tel_lex.specs.declared.token.TokenKind.TheVariants as token_kinds
 use Rattle.tel_rule.specs.declared.parts.Part.TheVariants as parts
 use Rattle.tel_rule.specs.declared.statements.Relation.TheVariants as relations
 use Rattle.grammar_laws.specs.Steps.{passes}
-use Rattle.grammar_laws.proofs.Nonterminals.{Passing}
+use Rattle.grammar_laws.proofs.Lifting.{Passing}
 use Rattle.grammar_laws.proofs.Sets.{member, LiesIn}
 use Rattle.grammar_laws.proofs.Described.{Words, more_set, more-lies}
 use Rattle.formula_syntax.specs.declared.marks.Mark.TheVariants as marks

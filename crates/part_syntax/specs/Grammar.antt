@@ -86,8 +86,9 @@ relation word = by_itself (relation_of (sense word))
 
 -- ---- literals
 
-abbrev pub literal : ℕ → LitItem → Literal
-literal nots item = record { nots = nots; item = item }
+-- what stands behind so many `not`
+abbrev pub behind_nots : ℕ → LitItem → Literal
+behind_nots nots item = record { nots = nots; item = item }
 
 abbrev pub compare_of : Expr × (Relation × Expr) → LitItem
 compare_of read = items.Compare read.1.0 read.0 read.1.1
@@ -180,7 +181,7 @@ abbrev pub tel : Produces LitItem
 tel = made_of items.Tel (led marks.Ampersand (made_of behind (and (terminal ATel) (led marks.OpenBrace (ended (given AFormula) marks.CloseBrace)))))
 
 abbrev pub negated_of : Unit {0} × (Option (Unit {0}) × LitItem) → Literal
-negated_of (first, (second, item)) = literal (1 + count second) item
+negated_of (first, (second, item)) = behind_nots (1 + count second) item
 
 abbrev pub negatable : Produces LitItem
 negatable = or tel (given AnAtomItem)
@@ -192,15 +193,15 @@ abbrev pub bare : Produces LitItem
 bare = or tel (given APlain)
 
 -- literal = [ "not" [ "not" ] ] ( tel | atom ) | comparison
-abbrev pub any_literal : Produces Literal
-any_literal = or negated (made_of (literal 0) bare)
+abbrev pub literal : Produces Literal
+literal = or negated (made_of (behind_nots 0) bare)
 
 abbrev pub chain_of : {A B : Type 0} → B × List (A × B) → List B
 chain_of read = read.0 ∷ behind_all read.1
 
 -- body = literal { ("," | ";") literal }
 abbrev pub body : Produces (List Literal)
-body = made_of chain_of (and_on any_literal (many (and (terminal ASeparator) any_literal)))
+body = made_of chain_of (and_on literal (many (and (terminal ASeparator) literal)))
 
 abbrev pub body_of : Unit {0} × (Option (List Literal) × Unit {0}) → List Literal
 body_of (sign, (Some body, end)) = body
@@ -212,13 +213,13 @@ tail = made_of body_of (and (alone marks.If) (and_from (perhaps body) (alone mar
 
 -- ---- facts
 
-abbrev pub arg_of : Expr × Option (Unit {0} × Expr) → Arg
+abbrev pub arg_of : Expr × Option Expr → Arg
 arg_of (first, None) = args.One first
-arg_of (first, Some (dots, last)) = args.Range first last
+arg_of (first, Some last) = args.Range first last
 
 -- arg = expr [ ".." expr ]
 abbrev pub arg : Produces Arg
-arg = made_of arg_of (and_on (given AnExpr) (perhaps (and (alone marks.Dots) (given AnExpr))))
+arg = made_of arg_of (and_on (given AnExpr) (perhaps (led marks.Dots (given AnExpr))))
 
 -- tuple = arg { "," arg }, with at most eight arguments
 abbrev pub tuple : Produces (List Arg)
@@ -332,8 +333,12 @@ show_of shown = Says (kinds.Show shown)
 abbrev pub show_item : Produces Item
 show_item = made_of show_of (led marks.Show (ended_from (perhaps signature) marks.Stop))
 
+abbrev pub directive : Produces Item
+directive = or part_item (or const_item show_item)
+
+-- what begins with no name
 abbrev pub other_item : Produces Item
-other_item = or choice_rule (or constraint (or part_item (or const_item show_item)))
+other_item = or choice_rule (or constraint directive)
 
 -- an item of a text
 abbrev pub IsItem : ℕ → Grammar Item

@@ -15,7 +15,7 @@ use Rattle.grammar_laws.specs.Steps.{Got, Stuck, made, either, each, after, pass
 use Rattle.formula_syntax.specs.Grammar.{name, leaf, product_op, sum_op, sign}
 use Rattle.formula_syntax.specs.Reading.{read_sign, read_expr, read_atom, read_formula, starts_atom, starts_flat, opens_value, opens_unary}
 use Rattle.grammar_laws.specs.Productions.{begun_by, reader}
-use Rattle.part_syntax.specs.Grammar.{relation, Item, word, comparison, Thing, ASign, AnExpr, AnAtomItem, AnAtom, AFormula, APlain, Of, Produces, tel, negatable, negated, any_literal, body, tail, arg, tuple, tuples, facts, head_of, behind_facts, signature, other_item, Stated, afresh}
+use Rattle.part_syntax.specs.Grammar.{relation, Item, word, comparison, Thing, ASign, AnExpr, AnAtomItem, AnAtom, AFormula, APlain, Of, Produces, tel, negatable, negated, literal, body, tail, arg, tuple, tuples, facts, head_of, behind_facts, signature, other_item, Stated, afresh}
 
 -- ---- literals
 
@@ -84,10 +84,10 @@ abbrev pub read_negated : ℕ → Reader Literal
 read_negated n = read_as negated n
 
 abbrev pub read_literal : ℕ → Reader Literal
-read_literal n = read_as any_literal n
+read_literal n = read_as literal n
 
 abbrev pub starts_literal : Word → Bool
-starts_literal = begun_by word starts any_literal
+starts_literal = begun_by word starts literal
 
 abbrev pub read_body : ℕ → Reader (List Literal)
 read_body n = read_as body n

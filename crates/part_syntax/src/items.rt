@@ -4,7 +4,6 @@ ghost use Rattle.formula_syntax.specs.Reading as formulas;
 ghost use Rattle.grammar_laws.specs.Steps.{one, maybe, either, made, passes};
 ghost use Rattle.formula_syntax.specs.Grammar.{sign};
 ghost use Rattle.formula_syntax.specs.Given.{Reads};
-ghost use Rattle.grammar_laws.specs.Productions.{or};
 ghost use Rattle.part_syntax.specs.Grammar as grammar;
 ghost use Rattle.part_syntax.specs.Reading as readers;
 ghost use Rattle.part_syntax.specs.Given.{ReadsItem, IsFrugal};
@@ -168,7 +167,7 @@ fn at_atom(reading: &Reading) -> bool
 
 /// A directive.
 fn directive(reading: &mut Reading, levels: u8) -> Result<Item, Stop>
-    ensures reads { ReadsItem (readers.read_as (or grammar.part_item (or grammar.const_item grammar.show_item)) levels reading.old) result reading.new }
+    ensures reads { ReadsItem (readers.read_as grammar.directive levels reading.old) result reading.new }
     ensures room { IsFrugal reading.old reading.new }
 {
     if reading.sees(Mark::Program) {
