@@ -1,10 +1,7 @@
 -- A trail that is ready stays so where it goes back and a clause comes that is settled at each lower level.
-use Rattle.std.proofs.Common.{◌≡◌, ℕ, ◌≤◌, true, List, [], ◌∷◌, ◌++◌, length, refl, sym, ap, subst, ◌∙◌, inl, inr, ⊎_elim, arith}
-use Rattle.std.specs.Prelude.{Option, Some, None, nat_lt, ◌&&◌}
-use Rattle.std.specs.List.{list_all}
-use Rattle.std.proofs.lemmas.Bool.{and_parts, and_from}
+use Rattle.std.proofs.Common.{◌≡◌, ℕ, ◌≤◌, true, List, [], ◌∷◌, ◌++◌, sym, ap, subst, ◌∙◌, inl, inr, ⊎_elim, arith}
+use Rattle.std.specs.Prelude.{Option, Some, None}
 use Rattle.std.proofs.lemmas.List.{length-append, map-append, get_or_append_left}
-use Rattle.std.proofs.lemmas.List.Folds.{list_all-append}
 use Rattle.tel_base.specs.declared.literals.Lit.{Lit}
 use Rattle.tel_base.proofs.Members.{In-append_left, In-append_cases}
 use Rattle.clause_store.specs.declared.store.ClauseId.{ClauseId}
@@ -19,6 +16,7 @@ use Rattle.lit_trail.specs.Sound.{holds, decided_lits, IsReason, HasReason, Reas
 use Rattle.lit_trail.proofs.LevelSteps.{back_back}
 use Rattle.lit_trail.proofs.Ordered.{of_back}
 use Rattle.watch_propagate.specs.Propagation.{are_below}
+use Rattle.watch_propagate.proofs.Bounds.{below_more}
 use Rattle.trail_walk.specs.Ways.{IsReady}
 use Rattle.back_jump.specs.Jumps.{IsSettledBelow}
 
@@ -50,19 +48,6 @@ sound_more clauses clause trail settled sound = record {
   reasons = reasons_more clauses clause trail.entries sound.reasons;
   below = λ lower l. closed_more clauses clause (back lower trail.entries) (settled lower l) (sound.below lower l);
 }
-
--- ---- its variables
-
-distinct_below : (vars : ℕ) (lits : List Lit) → are_distinct vars lits ≡ true → list_all (λ (lit : Lit). nat_lt lit.var vars) lits ≡ true
-distinct_below vars [] h = refl
-distinct_below vars (lit ∷ more) h =
-    let p = and_parts (nat_lt lit.var vars) (lacks lit.var more && are_distinct vars more) h in
-    and_from (nat_lt lit.var vars) (list_all (λ (l : Lit). nat_lt l.var vars) more) p.0 (distinct_below vars more (and_parts (lacks lit.var more) (are_distinct vars more) p.1).1)
-
-below_more : (vars : ℕ) (clauses : List Clause) (clause : Clause) → are_below vars clauses ≡ true → is_clause vars clause ≡ true → are_below vars (clauses ++ clause ∷ []) ≡ true
-below_more vars clauses clause below is =
-    let test = λ (c : Clause). list_all (λ (lit : Lit). nat_lt lit.var vars) c in
-    list_all-append test clauses (clause ∷ []) ∙ and_from (are_below vars clauses) (test clause && true) below (and_from (test clause) true (distinct_below vars clause (and_parts (nat_lt 0 (length clause)) (are_distinct vars clause) is).1) refl)
 
 -- ---- ready again
 

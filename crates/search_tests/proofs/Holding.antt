@@ -1,14 +1,12 @@
 -- A clause more, while the trail is empty.
-use Rattle.std.proofs.Common.{◌≡◌, ℕ, ◌≤◌, Bool, true, false, not, ◌&&◌, List, [], ◌∷◌, ◌++◌, length, refl, sym, ap, subst, ◌∙◌, arith}
-use Rattle.std.specs.Prelude.{nat_lt, Option, Some, None}
+use Rattle.std.proofs.Common.{◌≡◌, ℕ, ◌≤◌, Bool, true, false, not, List, [], ◌∷◌, ◌++◌, length, refl, sym, ap, subst, ◌∙◌, arith}
+use Rattle.std.specs.Prelude.{Option, Some, None}
 use Rattle.std.specs.Option.{option_eq}
 use mathlib.Core.Bool.{beq}
-use Rattle.std.specs.List.{list_all}
-use Rattle.std.proofs.lemmas.Bool.{and_parts, and_from, false≢true}
+use Rattle.std.proofs.lemmas.Bool.{false≢true}
 use Rattle.std.proofs.lemmas.List.{map-append}
-use Rattle.std.proofs.lemmas.List.Folds.{list_all-append}
 use Rattle.tel_base.specs.declared.literals.Lit.{Lit}
-use Rattle.clause_store.specs.Held.{Held, clauses_in, lacks, are_distinct, is_clause}
+use Rattle.clause_store.specs.Held.{Held, clauses_in, is_clause}
 use Rattle.clause_store.specs.Closure.{In, Clause}
 use Rattle.lit_trail.specs.declared.assignment.Entry.{Entry}
 use Rattle.lit_trail.specs.declared.assignment.Spot.{Spot}
@@ -22,17 +20,11 @@ use Rattle.clause_learn.proofs.NoteSteps.{falsified, level_of_lit}
 use Rattle.clause_learn.proofs.Resolutions.{has_from}
 use Rattle.clause_learn.proofs.Uips.{more_from}
 use Rattle.watch_propagate.specs.Propagation.{are_below}
-
-distinct_below : (vars : ℕ) (lits : List Lit) → are_distinct vars lits ≡ true → list_all (λ (lit : Lit). nat_lt lit.var vars) lits ≡ true
-distinct_below vars [] h = refl
-distinct_below vars (lit ∷ more) h =
-    let p = and_parts (nat_lt lit.var vars) (lacks lit.var more && are_distinct vars more) h in
-    and_from (nat_lt lit.var vars) (list_all (λ (l : Lit). nat_lt l.var vars) more) p.0 (distinct_below vars more (and_parts (lacks lit.var more) (are_distinct vars more) p.1).1)
+use Rattle.watch_propagate.proofs.Bounds.{below_more}
 
 pub held_below : (vars : ℕ) (old new : List Held) (one : Held) → are_below vars (clauses_in old) ≡ true → is_clause vars one.lits ≡ true → new ≡ old ++ one ∷ [] → are_below vars (clauses_in new) ≡ true
 held_below vars old new one h clause is =
-    let test = λ (c : Clause). list_all (λ (lit : Lit). nat_lt lit.var vars) c in
-    ap (λ (hs : List Held). are_below vars (clauses_in hs)) is ∙ ap (are_below vars) (map-append (λ (c : Held). c.lits) old (one ∷ [])) ∙ list_all-append test (clauses_in old) (one.lits ∷ []) ∙ and_from (are_below vars (clauses_in old)) (test one.lits && true) h (and_from (test one.lits) true (distinct_below vars one.lits (and_parts (nat_lt 0 (length one.lits)) (are_distinct vars one.lits) clause).1) refl)
+    ap (λ (hs : List Held). are_below vars (clauses_in hs)) is ∙ ap (are_below vars) (map-append (λ (c : Held). c.lits) old (one ∷ [])) ∙ below_more vars (clauses_in old) one.lits h clause
 
 no_entries : (entries : List Entry) → length entries ≤ 0 → entries ≡ []
 no_entries [] l = refl
