@@ -2,6 +2,8 @@
 #![tactic(auto)]
 
 mod holding;
+mod laws;
 mod levels;
 
 pub use holding::{hold, hold_false, hold_learnt};
+pub use laws::false_clauses;
