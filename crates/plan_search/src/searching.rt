@@ -211,16 +211,16 @@ pub fn search(
     steps: &[Step<'_>],
     env: Items<Value>,
     vars: usize,
-) -> Result<Items<Items<Value>>, Memory>
+) -> Result<Vec<Items<Value>>, Memory>
     requires plan { IsPlan (replicate (length env) false) (plan_of tables.now symbols.now steps.now) }
     requires terms { HaveTerms symbols.now steps.now }
     requires rows { RowsHaveTerms symbols.now tables.now }
     requires env { AreTerms symbols.now env }
     requires vars { vars ≤ length env }
-    ensures { IfOk result (λ found. found ≡ map (take vars) (answers (plan_of tables.now symbols.now steps.now) env)) }
+    ensures { IfOk result (λ found. found.items ≡ map (take vars) (answers (plan_of tables.now symbols.now steps.now) env)) }
 {
     let mut env = env;
-    let mut found = Items::new(alloc);
+    let mut found = Vec::new(alloc);
     let mut stack = Items::new(alloc);
     stack.push(enter(tables, symbols, steps, 0, env.as_slice()))?;
     'walking: while let Some(frame) = stack.pop() {

@@ -6,7 +6,7 @@ use Rattle.plan_search.proofs.searching.search.Given as goal
 
 abbrev pub invariant-walking : goal.invariant-walking
 invariant-walking l = record {
-  whole : l.found ++ map (take l.vars) (all_find (plan_of l.tables l.symbols l.steps) l.env l.stack) ≡ map (take l.vars) (answers (plan_of l.tables l.symbols l.steps) l.fn.env);
+  whole : l.found.items ++ map (take l.vars) (all_find (plan_of l.tables l.symbols l.steps) l.env l.stack) ≡ map (take l.vars) (answers (plan_of l.tables l.symbols l.steps) l.fn.env);
   long : length l.env ≡ length l.fn.env;
   terms : AreTerms l.symbols l.env;
   rise : Rise 0 (length (plan_of l.tables l.symbols l.steps)) l.stack;
