@@ -32,7 +32,7 @@ first_level Greater b is = is
 rest_level : (a b : Ordering) → a ≡ Equal → ordering_then a b ≡ Equal → b ≡ Equal
 rest_level a b same is = sym (ap (λ (o : Ordering). ordering_then o b) same) ∙ is
 
-level_one : (symbols : List Term) (a b : List Value) → IsTable symbols → list_all (is_value symbols) a ≡ true → list_all (is_value symbols) b ≡ true → binding_cmp symbols a b ≡ Equal → a ≡ b
+pub level_one : (symbols : List Term) (a b : List Value) → IsTable symbols → list_all (is_value symbols) a ≡ true → list_all (is_value symbols) b ≡ true → binding_cmp symbols a b ≡ Equal → a ≡ b
 level_one symbols [] [] table all_a all_b level = refl
 level_one symbols [] (y ∷ ys) table all_a all_b level = absurd (cc)
 level_one symbols (x ∷ xs) [] table all_a all_b level = absurd (cc)

@@ -1,0 +1,7 @@
+//! Bindings in their order.
+#![tactic(auto)]
+
+mod comparing;
+mod sorting;
+
+pub use sorting::sort_bindings;
