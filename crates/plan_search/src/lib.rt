@@ -7,5 +7,6 @@ mod rows;
 mod searching;
 mod steps;
 
+pub use comparing::compares;
 pub use searching::search;
 pub use steps::Step;
