@@ -1,6 +1,7 @@
 //! Calls of the layer of settings.
 
-use row_tables::{Cause, Value, number, words};
+use crate::shown::shown;
+use row_tables::{Cause, Value, words};
 use std::alloc::Global;
 use tel_settings::{Input, Settings, SettingsFault, Stop, printed_lengths, settings, stops};
 
@@ -23,11 +24,10 @@ pub fn settled(alloc: Global, given: &[Value]) -> Result<Vec<u8>, Cause> {
         Input::Files(files) => files.len(),
         Input::Number(_) => 0,
     };
-    let shown = format!(in alloc;
+    shown(format!(in alloc;
         "{} {} {:?} {files}",
         settings.imin, settings.imax, settings.stop
-    )?;
-    Ok(shown.into_bytes())
+    ))
 }
 
 /// A number of a length or of traces.
@@ -39,17 +39,19 @@ fn count(value: &Value) -> Result<u32, Cause> {
 }
 
 /// Whether a run with the settings of these words stops after this length with so many traces.
-pub fn stopped(alloc: Global, given: &[Value]) -> Result<Vec<u8>, Cause> {
+fn stops_at(alloc: Global, words: &[Value], length: u32, traces: u32) -> Result<Vec<u8>, Cause> {
     printed_lengths();
-    let Some((traces, given)) = given.split_last() else {
+    let Some(settings) = settings_of(alloc, words)? else {
         return Err(Cause::Values);
     };
-    let Some((length, given)) = given.split_last() else {
+    let stop = stops(&settings, length, traces as usize);
+    shown(format!(in alloc; "{stop}"))
+}
+
+/// The same, where the length and the number of traces stand behind the words.
+pub fn stopped(alloc: Global, given: &[Value]) -> Result<Vec<u8>, Cause> {
+    let [words @ .., length, traces] = given else {
         return Err(Cause::Values);
     };
-    let Some(settings) = settings_of(alloc, given)? else {
-        return Err(Cause::Values);
-    };
-    let stop = stops(&settings, count(length)?, count(traces)? as usize);
-    Ok(format!(in alloc; "{stop}")?.into_bytes())
+    stops_at(alloc, words, count(length)?, count(traces)?)
 }

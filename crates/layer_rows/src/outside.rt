@@ -1,6 +1,7 @@
 //! Calls of what reads and writes.
 ghost use Rattle.std.specs.Prelude.{◌≤◌};
 
+use crate::shown::shown;
 use row_tables::{Cause, Value, joined, word};
 use std::alloc::Global;
 use std::hash::BuildHasher;
@@ -20,14 +21,27 @@ pub struct Outside<R: Files + Input> {
     pub texts: MemSource,
 }
 
+/// Adds a text with its name.
+fn add_text(
+    alloc: Global,
+    texts: &mut Vec<(String, Vec<u8>)>,
+    name: &str,
+    text: &[u8],
+) -> Result<(), Cause> {
+    let name = String::from_str(alloc, name)?;
+    let text = Vec::from_slice(alloc, text)?;
+    texts.push((name, text))?;
+    Ok(())
+}
+
 /// The text `a`, an empty text `b`, and another text of the name `a`. The fourth read fails.
 pub fn texts_in_memory(alloc: Global) -> Result<MemSource, Cause> {
     let mut texts = Vec::new(alloc);
-    for (name, text) in [("a", "one two"), ("b", ""), ("a", "three")] {
-        let name = String::from_str(alloc, name)?;
-        texts.push((name, Vec::from_slice(alloc, text.as_bytes())?))?;
-    }
-    Ok(MemSource::new(texts, vec![in alloc; 4]?))
+    add_text(alloc, &mut texts, "a", b"one two")?;
+    add_text(alloc, &mut texts, "b", b"")?;
+    add_text(alloc, &mut texts, "a", b"three")?;
+    let fails = vec![in alloc; 4]?;
+    Ok(MemSource::new(texts, fails))
 }
 
 /// The bytes that a read gave, behind `gave `, or `failed`.
@@ -81,8 +95,16 @@ pub fn read_plain(alloc: Global, given: &[Value]) -> Result<Vec<u8>, Cause> {
     answer(alloc, read, &into)
 }
 
+/// Writes a whole text to a sink in memory, and gives whether it was written, and what the sink holds.
+fn write_in(alloc: Global, sink: &mut MemSink, text: &[u8]) -> Result<Vec<u8>, Cause> {
+    let whole = write_whole(sink, text).is_ok();
+    let mut out = Vec::from_slice(alloc, if whole { b"whole " } else { b"front " })?;
+    out.extend_from_slice(sink.bytes())?;
+    Ok(out)
+}
+
 /// Writes a whole text to a sink in memory: its room, how many bytes a write takes at most, and the number of the write
-/// that fails, stand before it. Gives whether it was written, and what the sink holds.
+/// that fails, stand before it.
 pub fn written(alloc: Global, given: &[Value]) -> Result<Vec<u8>, Cause> {
     let [
         Value::Number(room),
@@ -98,26 +120,26 @@ pub fn written(alloc: Global, given: &[Value]) -> Result<Vec<u8>, Cause> {
     }
     let fails = vec![in alloc; *fails]?;
     let mut sink = MemSink::new(alloc, *room as usize, *most as usize, fails)?;
-    let whole = write_whole(&mut sink, text.as_slice()).is_ok();
-    let mut out = Vec::from_slice(alloc, if whole { b"whole " } else { b"front " })?;
-    out.extend_from_slice(sink.bytes())?;
-    Ok(out)
+    write_in(alloc, &mut sink, text.as_slice())
 }
 
-/// Writes texts to a sink one after another, and gives how many bytes each write took.
+/// Writes a text to a sink, and gives how many bytes the write took.
+fn put<O: Sink>(alloc: Global, sink: &mut O, text: &[u8]) -> Result<Vec<u8>, Cause> {
+    match sink.write(text) {
+        Ok(count) => shown(format!(in alloc; "{count} ")),
+        Err(Failed) => Ok(Vec::from_slice(alloc, b"failed ")?),
+    }
+}
+
+/// Writes texts to a sink one after another.
 fn put_each<O: Sink>(alloc: Global, sink: &mut O, given: &[Value]) -> Result<Vec<u8>, Cause> {
     let mut out = Vec::new(alloc);
     for value in given {
         let Value::Text(text) = value else {
             return Err(Cause::Values);
         };
-        match sink.write(text.as_slice()) {
-            Ok(count) => {
-                let shown = format!(in alloc; "{count} ")?;
-                out.extend_from_slice(shown.as_bytes())?;
-            }
-            Err(Failed) => out.extend_from_slice(b"failed ".as_slice())?,
-        }
+        let taken = put(alloc, sink, text.as_slice())?;
+        out.extend_from_slice(taken.as_slice())?;
     }
     Ok(out)
 }
@@ -167,7 +189,7 @@ pub fn keyed(alloc: Global, given: &[Value]) -> Result<Vec<u8>, Cause> {
     };
     let one = HashKey::of(std::slice::from_ref(first)).hash_one(7u64);
     let other = HashKey::of(others).hash_one(7u64);
-    Ok(format!(in alloc; "{}", one == other)?.into_bytes())
+    shown(format!(in alloc; "{}", one == other))
 }
 
 /// Whether two texts are equal, and how many bytes the first has.
@@ -178,5 +200,5 @@ pub fn same_texts(alloc: Global, given: &[Value]) -> Result<Vec<u8>, Cause> {
     };
     let copy = Text::from_vec(Vec::from_slice(alloc, first.as_slice())?);
     let same = first == second;
-    Ok(format!(in alloc; "{same} {} {}", copy.len(), copy.is_empty())?.into_bytes())
+    shown(format!(in alloc; "{same} {} {}", copy.len(), copy.is_empty()))
 }

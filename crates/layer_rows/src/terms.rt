@@ -1,12 +1,13 @@
 //! Calls of the layer of terms.
 
+use crate::shown::shown;
 use crate::tokens::text_of;
 use crate::trees::whole;
 use row_tables::{Cause, Value as Given};
 use std::alloc::Global;
 use std::cmp::Ordering;
 use tel_base::{HashKey, Text};
-use tel_term::{Symbols, Term, Value, eval};
+use tel_term::{Expr, Symbols, Term, Value, eval};
 
 /// A term: a number, a string behind a quote, or else a name.
 fn term_of(alloc: Global, given: &Given) -> Result<Term, Cause> {
@@ -39,20 +40,28 @@ fn stands(symbols: &Symbols, value: Value, term: &Term) -> bool {
     }
 }
 
+/// The value of a term in a table, behind `another` where it stands for another one.
+fn numbered_in(alloc: Global, symbols: &mut Symbols, given: &Given) -> Result<Vec<u8>, Cause> {
+    let value = value_in(alloc, symbols, given)?;
+    let term = term_of(alloc, given)?;
+    if stands(symbols, value, &term) {
+        shown(format!(in alloc; "{value:?} "))
+    } else {
+        shown(format!(in alloc; "another {value:?} "))
+    }
+}
+
 /// The values of terms, one after another in one table, and how many the table has, as `Sym(0) Num(-3) 1`.
 pub fn numbered(alloc: Global, given: &[Given]) -> Result<Vec<u8>, Cause> {
-    let mut symbols = Symbols::keyed(alloc, HashKey::of(&[Text::from_slice(alloc, b"a text")?]));
+    let key = Text::from_slice(alloc, b"a text")?;
+    let mut symbols = Symbols::keyed(alloc, HashKey::of(std::slice::from_ref(&key)));
     let mut out = Vec::new(alloc);
     for given in given {
-        let value = value_in(alloc, &mut symbols, given)?;
-        if !stands(&symbols, value, &term_of(alloc, given)?) {
-            out.extend_from_slice(b"another ".as_slice())?;
-        }
-        let shown = format!(in alloc; "{value:?} ")?;
-        out.extend_from_slice(shown.as_bytes())?;
+        let value = numbered_in(alloc, &mut symbols, given)?;
+        out.extend_from_slice(value.as_slice())?;
     }
-    let count = format!(in alloc; "{}", symbols.len())?;
-    out.extend_from_slice(count.as_bytes())?;
+    let count = shown(format!(in alloc; "{}", symbols.len()))?;
+    out.extend_from_slice(count.as_slice())?;
     Ok(out)
 }
 
@@ -69,7 +78,23 @@ fn order_of(symbols: &Symbols, first: Value, second: Value) -> Option<Ordering> 
     }
 }
 
-/// How the first of two terms stands to the second, and the second to the first, as `Less Greater`.
+/// How the first of two values stands to the second, and the second to the first, as `Less Greater`.
+fn orders_of(
+    alloc: Global,
+    symbols: &Symbols,
+    first: Value,
+    second: Value,
+) -> Result<Vec<u8>, Cause> {
+    match (
+        order_of(symbols, first, second),
+        order_of(symbols, second, first),
+    ) {
+        (Some(forth), Some(back)) => shown(format!(in alloc; "{forth:?} {back:?}")),
+        _ => Err(Cause::Range),
+    }
+}
+
+/// The same of two terms.
 pub fn compared(alloc: Global, given: &[Given]) -> Result<Vec<u8>, Cause> {
     let [first, second] = given else {
         return Err(Cause::Values);
@@ -77,9 +102,7 @@ pub fn compared(alloc: Global, given: &[Given]) -> Result<Vec<u8>, Cause> {
     let mut symbols = Symbols::new(alloc);
     let first = value_in(alloc, &mut symbols, first)?;
     let second = value_in(alloc, &mut symbols, second)?;
-    let forth = order_of(&symbols, first, second).ok_or(Cause::Range)?;
-    let back = order_of(&symbols, second, first).ok_or(Cause::Range)?;
-    Ok(format!(in alloc; "{forth:?} {back:?}")?.into_bytes())
+    orders_of(alloc, &symbols, first, second)
 }
 
 /// The values of the terms of a binding.
@@ -91,8 +114,16 @@ fn binding_of(alloc: Global, symbols: &mut Symbols, given: &[Given]) -> Result<V
     Ok(binding)
 }
 
-/// The value of an expression under a binding, or why it has none. Between the pieces of the expression's text and the
-/// terms of the binding stands the number of these.
+/// The value of an expression under a binding, or why it has none.
+fn value_of(alloc: Global, tree: &Expr, binding: &[Value]) -> Result<Vec<u8>, Cause> {
+    match eval(tree, binding) {
+        Ok(value) => shown(format!(in alloc; "{value:?}")),
+        Err(fault) => shown(format!(in alloc; "{fault:?}")),
+    }
+}
+
+/// The same of a text and terms. Between the pieces of the expression's text and the terms of the binding stands the number
+/// of these.
 pub fn evaluated(alloc: Global, given: &[Given]) -> Result<Vec<u8>, Cause> {
     let pieces = given
         .iter()
@@ -107,9 +138,5 @@ pub fn evaluated(alloc: Global, given: &[Given]) -> Result<Vec<u8>, Cause> {
     let text = text_of(alloc, &given[..pieces])?;
     let (tree, mut names) = whole(alloc, text.as_slice())?;
     let binding = binding_of(alloc, &mut names.symbols, terms)?;
-    let shown = match eval(&tree, binding.as_slice()) {
-        Ok(value) => format!(in alloc; "{value:?}")?,
-        Err(fault) => format!(in alloc; "{fault:?}")?,
-    };
-    Ok(shown.into_bytes())
+    value_of(alloc, &tree, binding.as_slice())
 }

@@ -1,6 +1,7 @@
 //! Calls of the layer of expressions and formulas.
 ghost use Rattle.std.specs.Prelude.{◌+◌, ◌^◌, ◌<◌, ◌≤◌, vec_len, length, IfOk};
 
+use crate::shown::shown;
 use crate::tokens::text_of;
 use formula_syntax::{FormulaFault, Names, expr, formula};
 use row_tables::{Cause, Value};
@@ -29,12 +30,11 @@ fn tokens_of<'a>(alloc: Global, text: &'a [u8]) -> Result<Vec<Token<'a>>, Cause>
 
 /// Where a reading stops, and why.
 fn refused(alloc: Global, fault: FormulaFault) -> Result<Vec<u8>, Cause> {
-    let shown = match fault {
-        FormulaFault::Syntax(place) => format!(in alloc; "syntax {place}")?,
-        FormulaFault::TooDeep(place) => format!(in alloc; "deep {place}")?,
-        FormulaFault::Memory => return Err(Cause::Memory),
-    };
-    Ok(shown.into_bytes())
+    match fault {
+        FormulaFault::Syntax(place) => shown(format!(in alloc; "syntax {place}")),
+        FormulaFault::TooDeep(place) => shown(format!(in alloc; "deep {place}")),
+        FormulaFault::Memory => Err(Cause::Memory),
+    }
 }
 
 /// The longest expression at the front of a text, and how many tokens it has, or where the reading stops.
@@ -43,7 +43,7 @@ pub fn expression(alloc: Global, given: &[Value]) -> Result<Vec<u8>, Cause> {
     let tokens = tokens_of(alloc, text.as_slice())?;
     let mut names = Names::new(alloc);
     match expr(alloc, tokens.as_slice(), 0, &mut names) {
-        Ok((tree, end)) => Ok(format!(in alloc; "{end} {tree:?}")?.into_bytes()),
+        Ok((tree, end)) => shown(format!(in alloc; "{end} {tree:?}")),
         Err(fault) => refused(alloc, fault),
     }
 }
@@ -54,7 +54,7 @@ pub fn formula_of(alloc: Global, given: &[Value]) -> Result<Vec<u8>, Cause> {
     let tokens = tokens_of(alloc, text.as_slice())?;
     let mut names = Names::new(alloc);
     match formula(alloc, tokens.as_slice(), 0, &mut names) {
-        Ok((tree, end)) => Ok(format!(in alloc; "{end} {tree:?}")?.into_bytes()),
+        Ok((tree, end)) => shown(format!(in alloc; "{end} {tree:?}")),
         Err(fault) => refused(alloc, fault),
     }
 }

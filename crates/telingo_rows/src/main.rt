@@ -11,29 +11,31 @@ mod rows;
 mod running;
 
 use anyhow::{Context, Result, ensure};
+use row_tables::{table, tell};
 use rows::{Row, rows_of};
-use running::Difference;
-use std::{env, fs};
-
-/// The rows of the table of this name, read from its file.
-fn table(rt: &HostRuntime, name: &str) -> Result<Vec<Row>> {
-    let file = format!(in rt.alloc(); "{name}.rows")?;
-    let bytes = fs::read(rt, file.as_str()).context(format_args!("reading {file}"))?;
-    let rows = rows_of(rt.alloc(), bytes.as_slice()).context(format_args!("{file}"))?;
-    Ok(rows)
-}
+use running::difference_of;
+use std::env;
 
 /// Runs these rows of a table, and prints those that differ. It says how many do.
 fn run(rt: &HostRuntime, name: &str, rows: Vec<Row>) -> Result<usize> {
     let mut different = 0usize;
     for row in rows {
         let line = row.line;
-        if let Some(Difference { wanted, came }) = running::difference_of(rt.alloc(), row)? {
-            println!(rt; "{name}.rows:{line}: wanted {wanted}")?;
-            println!(rt; "{name}.rows:{line}: came {came}")?;
+        if let Some(difference) = difference_of(rt.alloc(), row)? {
+            tell(rt, name, line, &difference)?;
             different = different.saturating_add(1);
         }
     }
+    Ok(different)
+}
+
+/// Runs the table of this name, and prints how many rows it has. It says how many differ.
+fn run_table(rt: &HostRuntime, name: &str) -> Result<usize> {
+    let fields = table(rt, name)?;
+    let rows = rows_of(rt.alloc(), fields.as_slice()).context(format_args!("{name}.rows"))?;
+    let count = rows.len();
+    let different = run(rt, name, rows)?;
+    println!(rt; "{name}: {count} rows")?;
     Ok(different)
 }
 
@@ -41,10 +43,7 @@ fn run(rt: &HostRuntime, name: &str, rows: Vec<Row>) -> Result<usize> {
 fn main(rt: HostRuntime) -> Result<()> {
     let mut different = 0usize;
     for name in env::args(&rt)?.skip(1) {
-        let rows = table(&rt, name.as_str())?;
-        let count = rows.len();
-        different = different.saturating_add(run(&rt, name.as_str(), rows)?);
-        println!(rt; "{name}: {count} rows")?;
+        different = different.saturating_add(run_table(&rt, name.as_str())?);
     }
     ensure!(different == 0, "{different} rows differ");
     Ok(())

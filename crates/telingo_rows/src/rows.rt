@@ -2,7 +2,7 @@
 ghost use Rattle.std.specs.Prelude.{◌≤◌, IfOk};
 
 use crate::names::{Name, name_of};
-use row_tables::{Cause, Fault, Value, fields_of, in_line, joined, number, numbers, word, words};
+use row_tables::{Cause, Fault, Field, Value, in_line, joined, number, numbers, word, words};
 use std::alloc::Global;
 
 /// How many bytes the output has room for where a row doesn't say it.
@@ -155,11 +155,11 @@ fn add_row(alloc: Global, rows: &mut Vec<Row>, draft: Option<Draft>) -> Result<(
     Ok(())
 }
 
-/// The rows of a table, in order.
-pub fn rows_of(alloc: Global, table: &[u8]) -> Result<Vec<Row>, Fault> {
+/// The rows of a table of these fields, in order.
+pub fn rows_of(alloc: Global, fields: &[Field]) -> Result<Vec<Row>, Fault> {
     let mut rows = Vec::new(alloc);
     let mut draft: Option<Draft> = None;
-    for field in &fields_of(alloc, table)? {
+    for field in fields {
         let line = field.line;
         let values = field.values.as_slice();
         let name = in_line(line, name_of(field.name.as_slice()).ok_or(Cause::Name))?;

@@ -2,17 +2,10 @@
 
 use crate::portions::Portions;
 use crate::rows::{Outcome, Row, Setting};
-use row_tables::quoted;
+use row_tables::{Difference, quoted};
 use std::alloc::{AllocError, Global};
 use tel_base::{MemSink, MemSource, Memory};
 use telingo_cli::telingo;
-
-/// What was wanted of a row and what came, as a table would say it.
-#[derive(Drop)]
-pub struct Difference {
-    pub wanted: String,
-    pub came: String,
-}
 
 /// What `telingo` gives in this setting. Its log has no room, so that a byte for it would be a failed write.
 fn outcome(alloc: Global, setting: Setting) -> Result<Outcome, Memory> {
