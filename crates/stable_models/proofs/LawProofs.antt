@@ -1,7 +1,7 @@
 -- The models of a length are the stable sets of its program.
-use Rattle.std.proofs.Common.{◌≡◌, ℕ, zero, suc, ◌<◌, true, false, List, [], ◌∷◌, length, get_or, refl, sym, ap, subst, ◌∙◌, ⊎_elim, arith}
-use Rattle.std.specs.Prelude.{nat_lt, ◌==◌}
-use Rattle.std.specs.List.{list_all, range_with_len, Contains}
+use Rattle.std.proofs.Common.{◌≡◌, ℕ, zero, suc, ◌+◌, ◌<◌, true, false, List, [], ◌∷◌, length, get_or, refl, sym, ap, subst, ◌∙◌, ⊎_elim, arith}
+use Rattle.std.specs.Prelude.{nat_lt, ◌==◌, map, replicate}
+use Rattle.std.specs.List.{list_all, filter, range_with_len, Contains}
 use Rattle.std.proofs.lemmas.Bool.{and_parts, or_cases, ltb-true, eq-eqb, eqb-true, false≢true, cases_Bool, cases_order, false_from_ne_true}
 use Rattle.tel_rule.specs.Ground.{Ground, IsGround}
 use Rattle.tel_rule.specs.Rising.{numbers_rise}
@@ -23,9 +23,9 @@ use Rattle.normal_program.specs.declared.rules.NRule.{NRule}
 use Rattle.atom_space.specs.Numbers.{visible, part, end_at}
 use Rattle.normal_program.specs.StableSets.{Set, is_closed, IsStable, IsSupported}
 use Rattle.formula_unfold.specs.Nodes.{counts_of}
-use Rattle.stable_models.specs.Values.{full}
+use Rattle.stable_models.specs.Values.{full, read_trace}
 use Rattle.stable_models.proofs.ProgramRules.{program_rules, program_pairs}
-use Rattle.stable_models.specs.Laws.{full_of, trace_in, NodesOfSupported, StableAreSupported, NodesOfStable, NodesOfClosed, ModelsAreClosed, ClosedAreModels}
+use Rattle.stable_models.specs.Laws.{full_of, StableAreModels, trace_in, NodesOfSupported, StableAreSupported, NodesOfStable, NodesOfClosed, ModelsAreClosed, ClosedAreModels}
 use Rattle.completion.specs.Lengths.{pairs_of_modules}
 use Rattle.stable_models.specs.Programs.{IsStableAt, IsSupportedAt, is_closed_at, modules_of}
 use Rattle.stable_models.proofs.ModuleRules.{same_rules, same_pairs}
@@ -101,7 +101,12 @@ full_test count zero k a l m = absurd (omega (arith, l))
 full_test count (suc n) zero a l m = any_from (λ (x : ℕ). x == a) (range_with_len 0 count) a (range_from count 0 a (omega arith) (omega (arith, m))) (eq-eqb a a refl)
 full_test count (suc n) (suc k) a l m = full_test count n k a (omega (arith, l)) m
 
-pub stable_are_models : (program : Ground) (n : ℕ) (S : Set) → IsGround program → 0 < n → IsStableAt program n S → (trace : List (List ℕ)) × Contains (list_of program n) trace × ((v : ℕ) → S v ≡ full_of program n trace v)
+-- a part of the full trace, state by state
+pub part_rows : (H : Test) (row : List ℕ) (n k : ℕ) → part_of H k (replicate n row) ≡ map (λ (j : ℕ). filter (H j) row) (range_with_len k n)
+part_rows H row zero k = refl
+part_rows H row (suc n) k = ap (λ (rest : List (List ℕ)). filter (H k) row ∷ rest) (part_rows H row n (k + 1))
+
+pub stable_are_models : StableAreModels
 stable_are_models program n S ground some stable_of_modules =
     let stable = at_stable program n S stable_of_modules in
     let count = length program.atoms in
@@ -123,7 +128,8 @@ stable_are_models program n S ground some stable_of_modules =
       minimal = λ H below differ. false_from_ne_true (is_model (theory program) n H T) (λ model.
           differ.4 (same_truth (H differ.0 differ.1) (T differ.0 differ.1) (below differ.0 differ.1 differ.2 differ.3) (minimal_from_stable program n T ground some here H below ((models_meet_all program n H T).0 model) differ.0 differ.1 differ.2 differ.3)));
     } in
-    (trace, (list_of-equilibria program n trace ground).1 e, values)
+    let read : trace ≡ read_trace program n S = part_rows seen (range_with_len 0 count) n 0 in
+    subst (λ (t : List (List ℕ)). Contains (list_of program n) t × ((v : ℕ) → S v ≡ full_of program n t v)) read ((list_of-equilibria program n trace ground).1 e, values)
 
 -- what is true in a trace is in its range
 member_range : (count : ℕ) (state : List ℕ) (a : ℕ) → list_all (λ atom. nat_lt atom count) state ≡ true → is_member state a ≡ true → a < count

@@ -15,7 +15,7 @@ use Rattle.step_module.specs.Modules.{module_of}
 use Rattle.completion.specs.Completions.{AreSettled}
 use Rattle.completion.specs.Lengths.{AreApart, ArePlain, IsValued}
 use Rattle.completion.specs.Laws.{SatisfiesClauses}
-use Rattle.stable_models.specs.Values.{full, body_value, full_with_bodies, is_plain}
+use Rattle.stable_models.specs.Values.{full, read_trace, body_value, full_with_bodies, is_plain}
 use Rattle.stable_models.specs.Programs.{IsStableAt, IsSupportedAt, is_closed_at}
 
 -- the set of a trace
@@ -26,10 +26,11 @@ full_of program n trace = full program n (test_of trace) (test_of trace)
 abbrev pub ModelsAreStable : Type 0
 ModelsAreStable = (program : Ground) (n : ℕ) (trace : List (List ℕ)) → IsGround program → 0 < n → Contains (list_of program n) trace → IsStableAt program n (full_of program n trace)
 
--- each stable set is that of a model
+-- each stable set is that of a model, whose states are read off the set
 abbrev pub StableAreModels : Type 0
 StableAreModels =
-    (program : Ground) (n : ℕ) (S : Set) → IsGround program → 0 < n → IsStableAt program n S → (trace : List (List ℕ)) × Contains (list_of program n) trace × ((v : ℕ) → S v ≡ full_of program n trace v)
+    (program : Ground) (n : ℕ) (S : Set) → IsGround program → 0 < n → IsStableAt program n S
+    → Contains (list_of program n) (read_trace program n S) × ((v : ℕ) → S v ≡ full_of program n (read_trace program n S) v)
 
 -- and of that one alone
 abbrev pub SetsDiffer : Type 0

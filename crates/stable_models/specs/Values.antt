@@ -1,11 +1,12 @@
 -- The values that the variables have in an HT-trace.
-use Rattle.std.specs.Prelude.{ℕ, ◌+◌, ◌-◌, ◌/◌, ◌%◌, Bool, false, ◌&&◌, ◌||◌, length, Option, Some, None, nat_lt, nat_le, ◌==◌, slice_get, if◌then◌else◌}
+use Rattle.std.specs.Prelude.{ℕ, ◌+◌, ◌-◌, ◌/◌, ◌%◌, Bool, false, ◌&&◌, ◌||◌, List, map, length, Option, Some, None, nat_lt, nat_le, ◌==◌, slice_get, if◌then◌else◌}
+use Rattle.std.specs.List.{filter, range_with_len}
 use Rattle.tel_rule.specs.declared.ground.Instance.{Instance}
 use Rattle.tel_rule.specs.Ground.{Ground}
 use Rattle.tel_semantics.specs.Traces.{Test}
 use Rattle.tel_semantics.specs.NodeFormula.{node_formula}
 use Rattle.tel_semantics.specs.Satisfaction.{sat}
-use Rattle.atom_space.specs.Numbers.{width}
+use Rattle.atom_space.specs.Numbers.{width, visible}
 use Rattle.normal_program.specs.StableSets.{Set, lits_hold}
 use Rattle.formula_unfold.specs.Nodes.{counts_of}
 use Rattle.step_module.specs.Bodies.{stands, body_lits}
@@ -40,3 +41,7 @@ abbrev pub is_plain : Ground → Set
 is_plain program v =
     let place = v % width (counts_of program) in
     nat_lt place (length program.atoms + length program.nodes) || (place == length program.atoms + length program.nodes + length program.instances)
+
+-- the trace of length n of the atoms that are true in a set
+abbrev pub read_trace : Ground → ℕ → Set → List (List ℕ)
+read_trace program n S = map (λ (k : ℕ). filter (λ (a : ℕ). S (visible (counts_of program) a k)) (range_with_len 0 (length program.atoms))) (range_with_len 0 n)

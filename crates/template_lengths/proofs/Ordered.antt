@@ -1,12 +1,10 @@
 -- The order of sets is that of their traces.
-use Rattle.std.proofs.Common.{◌≡◌, ℕ, zero, suc, ◌+◌, ◌<◌, ◌≤◌, Bool, true, false, ◌&&◌, List, [], ◌∷◌, length, map, get_or, refl, sym, ap, subst, ◌∙◌, inl, inr, ⊎_elim, arith}
-use Rattle.std.specs.Prelude.{nat_lt, ◌==◌}
-use Rattle.std.specs.List.{list_all, range_with_len}
-use Rattle.std.proofs.lemmas.Bool.{and_parts, lt-ltb, ltb-true, eqb-true, cases_Bool, cases_lt}
-use Rattle.tel_base.proofs.Members.{In-list_all, any_found}
+use Rattle.std.proofs.Common.{◌≡◌, ℕ, zero, suc, ◌+◌, ◌<◌, ◌≤◌, Bool, true, false, ◌&&◌, List, [], ◌∷◌, length, map, refl, sym, ap, subst, ◌∙◌, inl, inr, ⊎_elim, arith}
+use Rattle.std.specs.Prelude.{nat_lt}
+use Rattle.std.specs.List.{range_with_len}
+use Rattle.std.proofs.lemmas.Bool.{lt-ltb, cases_Bool, cases_lt}
 use Rattle.tel_rule.specs.Ground.{Ground}
-use Rattle.tel_rule.specs.Rising.{numbers_rise}
-use Rattle.tel_semantics.specs.Traces.{test_of, is_member, is_state, IsTrace}
+use Rattle.tel_semantics.specs.Traces.{test_of, IsTrace}
 use Rattle.tel_semantics.specs.Order.{PrecedesAt}
 use Rattle.normal_program.specs.StableSets.{Set}
 use Rattle.atom_space.specs.Numbers.{visible}
@@ -14,30 +12,17 @@ use Rattle.formula_unfold.specs.Nodes.{counts_of}
 use Rattle.step_module.specs.Modules.{module_of}
 use Rattle.stable_models.specs.Laws.{full_of}
 use Rattle.stable_models.proofs.Numbering.{full-visible}
+use Rattle.stable_models.proofs.LawProofs.{test_range}
 use Rattle.search_laws.specs.Walks.{Before, Agree}
 use Rattle.search_laws.proofs.TraceOrder.{at_state}
 use Rattle.template_lengths.specs.Laws.{SetsAreOrdered}
 
 -- ---- traces
 
-state_right : (count : ℕ) (trace : List (List ℕ)) (k : ℕ) → list_all (is_state count) trace ≡ true → is_state count (get_or trace k []) ≡ true
-state_right count [] k h = refl
-state_right count (state ∷ more) zero h = (and_parts (is_state count state) (list_all (is_state count) more) h).0
-state_right count (state ∷ more) (suc k) h = state_right count more k (and_parts (is_state count state) (list_all (is_state count) more) h).1
-
 -- past the last atom none is true
 past_last : (n count : ℕ) (trace : List (List ℕ)) (k atom : ℕ) → IsTrace n count trace → count ≤ atom → test_of trace k atom ≡ false
 past_last n count trace k atom is l =
-    ⊎_elim
-    (λ (t : test_of trace k atom ≡ true).
-    let state = get_or trace k [] in
-    let w = any_found (λ (x : ℕ). x == atom) state t in
-    let low = In-list_all (λ (x : ℕ). nat_lt x count) w.0 state (and_parts (numbers_rise state) (list_all (λ (x : ℕ). nat_lt x count) state) (state_right count trace k is.1)).1 w.1 in
-    let below : w.0 < count = ltb-true w.0 count low in
-    let same : w.0 ≡ atom = eqb-true w.0 atom w.2 in
-    absurd (omega (arith, below, same, l)))
-    (λ f. f)
-    (cases_Bool (test_of trace k atom))
+    ⊎_elim (λ (t : test_of trace k atom ≡ true). let range = test_range count trace k atom is.1 t in absurd (omega (arith, range.1, l))) (λ f. f) (cases_Bool (test_of trace k atom))
 
 -- ---- sets
 
