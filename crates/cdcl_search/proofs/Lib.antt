@@ -6,3 +6,5 @@ pub mod Finding
 pub mod Blocks
 pub mod BlockedWalks
 pub mod Answered
+pub mod ModuleFits
+pub mod StoredClauses

@@ -12,6 +12,7 @@ ghost use Rattle.lit_trail.specs.Unassigned.{visible_below};
 ghost use Rattle.lit_trail.specs.Sound.{IsClosedTrail};
 ghost use Rattle.watch_propagate.specs.Propagation.{IsFalseClause};
 ghost use Rattle.unfounded_sets.specs.LoopClauses.{IsFalseLoop};
+ghost use Rattle.search_laws.specs.Origins.{Kept};
 ghost use Rattle.cdcl_search.specs.Searches.{clauses_of, begun_at, vars_for, literal_count, kept_of_module, IsAsBefore};
 ghost use Rattle.cdcl_search.specs.Steps.{Steps, AtLength, IsOneMore, IsBlocked, loop_set};
 
@@ -88,6 +89,14 @@ impl<F: Founded + Drop> Search<F> {
         ensures { result.now ≡ self.now.trail }
     {
         &self.trail
+    }
+
+    /// The clauses that it holds.
+    #[tactic(auto, using(crate::proofs::StoredClauses::stored_clauses))]
+    pub fn store(&self) -> &Store
+        ensures { result.now.clauses ≡ map (λ (one : Kept). record { kind = one.kind; lits = one.lits }) self.now.kept }
+    {
+        &self.store
     }
 
     /// Adds the next module of a program with its clauses, and goes back to level 0. On want of memory the search holds
