@@ -115,7 +115,7 @@ pub record HoldsSame (old new : View) : Type 0 where
 -- the budget is used up
 abbrev pub Steps : View → View → Begun → Option ℕ → Step → Type 0
 Steps old new begun budget (steps.Added id) = IsOneMore old new begun id × Allows budget begun.counted × IsNeeded old begun
-Steps old new begun budget steps.Found = HoldsSame old new × IsAtFound new begun
+Steps old new begun budget steps.Found = HoldsSame old new × (0 < new.trail.level) × IsAtFound new begun
 Steps old new begun budget steps.Closed = HoldsSame old new × IsClosedWalk (clauses_of old) (ending_of begun)
 Steps old new begun budget steps.Spent = HoldsSame old new × IsUsedUp budget begun.counted × IsNeeded old begun
 

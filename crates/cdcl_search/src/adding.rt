@@ -1,6 +1,6 @@
 //! The clauses of a module.
 
-ghost use Rattle.std.specs.Prelude.{◌≡◌, ℕ, ◌+◌, ◌<◌, ◌≤◌, ◌^◌, max, [], ◌∷◌, ◌++◌, map, length, vec_capacity, IsTrue, OnOk};
+ghost use Rattle.std.specs.Prelude.{◌≡◌, ℕ, ◌+◌, ◌<◌, ◌≤◌, ◌^◌, max, [], ◌∷◌, ◌++◌, map, length, vec_capacity, IsTrue, IfOk, OnOk};
 ghost use Rattle.std.specs.List.{list_all};
 ghost use Rattle.clause_store.specs.Held.{is_clause};
 ghost use Rattle.horizon_external.specs.Occurring.{lit_vars};
@@ -57,16 +57,25 @@ pub(crate) fn vars_for(step: &StepModule, clauses: &[Clause]) -> u32
     step.end.max(most) + 1
 }
 
+/// The sum of two counts. One that is no number of the machine is want of memory.
+fn sum(first: usize, second: usize) -> Result<usize, Memory>
+    ensures { IfOk result (λ sum. sum ≡ first + second) }
+{
+    match first.checked_add(second) {
+        Some(sum) => Ok(sum),
+        None => Err(Memory),
+    }
+}
+
 /// How many literals the clauses have.
-fn literals(clauses: &[Clause]) -> usize
-    requires { literal_count clauses.now < 2 ^ 64 }
-    ensures { result ≡ literal_count clauses.now }
+fn literals(clauses: &[Clause]) -> Result<usize, Memory>
+    ensures { IfOk result (λ count. count ≡ literal_count clauses.now) }
 {
     let mut count = 0;
     for clause in clauses {
-        count += clause.len();
+        count = sum(count, clause.len())?;
     }
-    count
+    Ok(count)
 }
 
 /// Makes room for so many variables, and for further clauses. On want of memory only the room may have grown.
@@ -80,7 +89,6 @@ pub(crate) fn make_room(
     requires ready { IsReady store.old trail.old }
     requires room { trail.old.vars ≤ scratch.old.vars }
     requires small { vars + 1 < 2 ^ 32 }
-    requires literals { literal_count clauses.now < 2 ^ 64 }
     ensures ready { IsReady store.new trail.new }
     ensures held { store.new.clauses ≡ store.old.clauses }
     ensures entries { trail.new.entries ≡ trail.old.entries }
@@ -91,10 +99,11 @@ pub(crate) fn make_room(
     ensures clause_room { OnOk result (length clauses.now ≤ store.new.clause_room) }
     ensures lit_room { OnOk result (literal_count clauses.now ≤ store.new.lit_room) }
 {
+    let count = literals(clauses)?;
     scratch.grow(vars)?;
     store.reserve_vars(vars)?;
     trail.grow(vars)?;
-    store.reserve(clauses.len(), literals(clauses))?;
+    store.reserve(clauses.len(), count)?;
     Ok(())
 }
 

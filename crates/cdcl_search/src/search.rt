@@ -13,7 +13,7 @@ ghost use Rattle.lit_trail.specs.Sound.{IsClosedTrail};
 ghost use Rattle.watch_propagate.specs.Propagation.{IsFalseClause};
 ghost use Rattle.unfounded_sets.specs.LoopClauses.{IsFalseLoop};
 ghost use Rattle.search_laws.specs.Origins.{Kept};
-ghost use Rattle.cdcl_search.specs.Searches.{clauses_of, begun_at, vars_for, literal_count, kept_of_module, IsAsBefore};
+ghost use Rattle.cdcl_search.specs.Searches.{clauses_of, begun_at, vars_for, kept_of_module, IsAsBefore};
 ghost use Rattle.cdcl_search.specs.Steps.{Steps, AtLength, IsOneMore, IsBlocked, loop_set};
 
 use crate::adding::{add_clauses, make_room, vars_for};
@@ -105,7 +105,6 @@ impl<F: Founded + Drop> Search<F> {
         requires state { step.now.t + 1 < 2 ^ 32 }
         requires vars { vars_for step.now clauses.now < 2 ^ 31 }
         requires clauses { IsTrue (list_all (is_clause (vars_for step.now clauses.now)) clauses.now) }
-        requires literals { literal_count clauses.now < 2 ^ 64 }
         ensures ground { OnOk result ((self.new.ground.rules ≡ self.old.ground.rules ++ all_rules step.now) × (self.new.ground.modules ≡ self.old.ground.modules ++ parts_of step.now ∷ [])) }
         ensures kept { OnOk result (self.new.kept ≡ self.old.kept ++ kept_of_module (step.now.t + 1) clauses.now) }
         ensures vars { OnOk result (self.new.vars ≡ max self.old.vars (vars_for step.now clauses.now)) }

@@ -1,4 +1,4 @@
-use Rattle.std.proofs.Common.{◌≡◌, ◌+◌, drop}
+use Rattle.std.proofs.Common.{◌≡◌, ◌+◌, drop, length}
 use Rattle.cdcl_search.specs.Searches.{literal_count}
 use Rattle.cdcl_search.proofs.adding.literals.Given as goal
 

@@ -115,8 +115,9 @@ returns-in-None-2-clause-step g c =
     let length = subst (λ (n : ℕ). IsLength n begun) (sym adv.ensures.vars) search.at.length in
     let total = subst (λ (cs : List Clause). IsTotal cs begun adv.new.trail) (sym now) c.in-Total.ensures.advances in
     let answer = subst (λ (a : Option LoopNogood). Answers i.ground adv.new.trail.entries a) c.in-None-2.is c.in_ok-find-in-Total.ensures in
+    let level = total.way.level in
     let found : IsAtFound mid begun = λ modules of. found_at mid begun sound c.len-count.ensures.levels c.len-count.ensures.ordered length total modules of answer in
-    at_begun (λ v b. Steps v mid b c.args.budget steps.Found) old c.args.self.now begun c.self.view_is c.in-Some.is (holds_same i.ground i.store adv.new.store i.lengths.items i.trail adv.new.trail i.loops.items i.begun same, found)
+    at_begun (λ v b. Steps v mid b c.args.budget steps.Found) old c.args.self.now begun c.self.view_is c.in-Some.is (holds_same i.ground i.store adv.new.store i.lengths.items i.trail adv.new.trail i.loops.items i.begun same, omega (arith, level), found)
 
 pub returns-in_ok-id-in-Some-2-clause-step : goal.returns-in_ok-id-in-Some-2-clause-step
 returns-in_ok-id-in-Some-2-clause-step g c =
