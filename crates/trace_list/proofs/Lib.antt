@@ -1,0 +1,3 @@
+pub mod Models
+pub mod Rising
+pub mod Places
