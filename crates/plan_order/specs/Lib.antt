@@ -1,0 +1,4 @@
+pub mod Goals
+pub mod Taking
+pub mod Passing
+pub mod Laws
