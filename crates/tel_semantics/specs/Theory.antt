@@ -12,15 +12,18 @@ use Rattle.tel_rule.specs.declared.ground.BodyLit.{BodyLit}
 use Rattle.tel_rule.specs.declared.ground.BodyItem.{BodyItem}
 use Rattle.tel_rule.specs.declared.ground.BodyItem.TheVariants as items
 use Rattle.tel_rule.specs.Ground.{Ground}
-use Rattle.tel_semantics.specs.Traces.{Test, each_below}
-use Rattle.tel_semantics.specs.Formula.{Formula, True, False, Atom, And, Or, Arrow, Previous, Next, negation}
+use Rattle.tel_semantics.specs.Traces.{each_below}
+use Rattle.tel_semantics.specs.Formula.{FormulaOver, Formula, True, False, Atom, And, Or, Arrow, Previous, Next, negation}
 use Rattle.tel_semantics.specs.NodeFormula.{node_formula}
 use Rattle.tel_semantics.specs.Satisfaction.{sat}
 
 -- a formula, and the part at whose instants it is demanded
-pub record Demand : Type 0 where
+pub record DemandOver (X : Type 0) : Type 0 where
   pub part : Part
-  pub formula : Formula
+  pub formula : FormulaOver X
+
+abbrev pub Demand : Type 0
+Demand = DemandOver ℕ
 
 -- an atom at the same instant, or one instant before, or what a node means
 abbrev pub item_formula : List Node → BodyItem → Formula
@@ -72,9 +75,9 @@ is_demanded parts.Always n k = true
 is_demanded parts.Final n k = k + 1 == n
 
 -- whether (H, T) satisfies a formula wherever it is demanded
-abbrev pub meets : ℕ → Test → Test → Demand → Bool
+abbrev pub meets : {X : Type 0} → ℕ → (ℕ → X → Bool) → (ℕ → X → Bool) → DemandOver X → Bool
 meets n H T demand = each_below n (λ k. not (is_demanded demand.part n k) || sat demand.formula n H T k)
 
 -- whether (H, T) is a model of a theory, in traces of length n
-abbrev pub is_model : List Demand → ℕ → Test → Test → Bool
+abbrev pub is_model : {X : Type 0} → List (DemandOver X) → ℕ → (ℕ → X → Bool) → (ℕ → X → Bool) → Bool
 is_model demands n H T = list_all (meets n H T) demands
