@@ -1,12 +1,12 @@
 -- A search that holds what it held, with another trail.
 use Rattle.std.proofs.Common.{◌≡◌, ℕ, List, [], ◌∷◌, ◌++◌, length, refl, sym, ap, subst, ◌∙◌, inl, inr, ⊎_elim}
-use Rattle.std.specs.Prelude.{Option, Some}
+use Rattle.std.specs.Prelude.{Option, Some, IsTrue}
 use Rattle.tel_base.proofs.Members.{In}
 use Rattle.normal_program.specs.declared.modules.StepModule.{StepModule}
 use Rattle.normal_program.specs.Grounds.{Layers}
 use Rattle.clause_store.specs.declared.store.ClauseId.{ClauseId}
 use Rattle.clause_store.specs.Held as held
-use Rattle.clause_store.specs.Held.{Held}
+use Rattle.clause_store.specs.Held.{Held, is_clause}
 use Rattle.clause_store.specs.Closure.{Absorbed, Conflict, negations}
 use Rattle.lit_trail.specs.Entries as trails
 use Rattle.search_laws.specs.Lengths.{length_of}
@@ -17,14 +17,15 @@ use Rattle.cdcl_search.specs.declared.loops.LoopSet.{LoopSet}
 use Rattle.cdcl_search.specs.Searches.{Begun, View, kept_of, view_of}
 use Rattle.cdcl_search.specs.Steps.{IsOfModules, IsNeeded, HoldsSame, IsLearntOne, IsLoopOne, IsOneMore, AtLength}
 
--- the same rules and parts, clauses, and sets of loop clauses
+-- the same rules and parts, clauses, variables, and sets of loop clauses
 pub record IsAlike (old new : View) : Type 0 where
   pub ground : new.ground ≡ old.ground
   pub kept : new.kept ≡ old.kept
+  pub vars : new.vars ≡ old.vars
   pub loops : new.loops ≡ old.loops
 
-pub alike : (ground : Layers) (store new : held.View) (lengths : List ℕ) (trail later : trails.View) (loops : List LoopSet) (begun : Option Begun) → new.clauses ≡ store.clauses → IsAlike (view_of ground store lengths trail loops begun) (view_of ground new lengths later loops begun)
-alike ground store new lengths trail later loops begun same = record { ground = refl; kept = ap (λ (hs : List Held). kept_of hs lengths) same; loops = refl }
+pub alike : (ground : Layers) (store new : held.View) (lengths : List ℕ) (trail later : trails.View) (loops : List LoopSet) (begun : Option Begun) → new.clauses ≡ store.clauses → later.vars ≡ trail.vars → IsAlike (view_of ground store lengths trail loops begun) (view_of ground new lengths later loops begun)
+alike ground store new lengths trail later loops begun same vars = record { ground = refl; kept = ap (λ (hs : List Held). kept_of hs lengths) same; vars = vars; loops = refl }
 
 pub holds_same : (ground : Layers) (store new : held.View) (lengths : List ℕ) (trail later : trails.View) (loops : List LoopSet) (begun : Option Begun) → new.clauses ≡ store.clauses → HoldsSame (view_of ground store lengths trail loops begun) (view_of ground new lengths later loops begun)
 holds_same ground store new lengths trail later loops begun same = record { kept = ap (λ (hs : List Held). kept_of hs lengths) same; loops = refl; begun = refl }
@@ -67,6 +68,7 @@ one_alike old new later begun id same is = record {
   number = is.number ∙ ap length same.kept;
   kept = is.kept ∙ ap (λ (ks : List Kept). ks ++ is.one ∷ []) same.kept;
   length = is.length;
+  distinct = subst (λ (vars : ℕ). IsTrue (is_clause vars is.one.lits)) same.vars is.distinct;
   came = ⊎_elim (λ l. inl (learnt_alike old new later is.one same l)) (λ l. inr (loop_alike old new later is.one same l)) is.came;
   free = subst (λ (ks : List Kept). Absorbed (lits_of ks) is.one.lits → ⊥) same.kept is.free;
   count = is.count;

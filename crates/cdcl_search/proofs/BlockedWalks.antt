@@ -23,7 +23,7 @@ use Rattle.cdcl_search.specs.Searches.{Begun, clauses_of, ending_of, walk_length
 use Rattle.cdcl_search.specs.Steps.{OfLengths, IsAtFound}
 use Rattle.cdcl_search.proofs.Blocks.{block_derives}
 
-pub blocks_found : (search : searches.View) (begun : Begun) (lits : Clause) → IsOnWay (walk_length begun) search.trail → ReasonsHold (clauses_of search) search.trail.entries → AreLevels search.trail.level search.trail.entries → AreOrdered search.trail.vars search.trail.entries → lits ≡ block_of search.trail.entries (lit_of (ending_of begun)) → IsAtFound search begun → OfLengths search begun (λ length. (decisions : List Lit) × (S : Set) × IsBlock length (clauses_of search) lits decisions S)
+pub blocks_found : (search : searches.View) (begun : Begun) (lits : Clause) → IsOnWay (walk_length begun) search.trail → ReasonsHold (clauses_of search) search.trail.entries → AreLevels search.trail.level search.trail.entries → AreOrdered search.trail.vars search.trail.entries → lits ≡ block_of search.trail.entries (lit_of (ending_of begun)) → IsAtFound search begun → OfLengths search begun (λ length. (decisions : List Lit) × IsBlock length (clauses_of search) lits decisions (true_set length search.trail.entries))
 blocks_found search begun lits way reasons levels ordered is found steps of =
     let entries = search.trail.entries in
     let clauses = clauses_of search in
@@ -37,7 +37,6 @@ blocks_found search begun lits way reasons levels ordered is found steps of =
     let derives : (lit : Lit) → holds entries lit ≡ true → Up clauses (negations lits) lit = λ lit h.
     subst (λ (ls : Clause). Up clauses (negations ls) lit) (sym is) (block_derives clauses search.trail.level entries end lit levels ordered.opened way.ended.first (decided_up clauses entries reasons lit h)) in (
       f.0,
-      S,
       record {
         found = found_finds length clauses f.0 S composed.visible_heads f.1;
         ended = subst (λ (ls : Clause). In (no_lit length.ending) ls) (sym is) (subst (λ (x : ℕ). In (no_lit x) (block_of entries end)) (sym of.ending) (In-append_right (negate end) (negations (reverse (decided_above 1 entries))) (negate end ∷ []) (inl refl)));

@@ -56,6 +56,14 @@ ending_below step clauses =
     let one = le-max_left step.end (max (greatest step.atoms) (greatest_in clauses)) in
     omega (arith, one)
 
+-- and its atoms are
+pub atom_below : (step : StepModule) (clauses : List Clause) (var : ℕ) → In var step.atoms → var < vars_for step clauses
+atom_below step clauses var i =
+    let one = var_below var step.atoms i in
+    let two = le-max_left (greatest step.atoms) (greatest_in clauses) in
+    let three = le-max_right step.end (max (greatest step.atoms) (greatest_in clauses)) in
+    omega (arith, one, two, three)
+
 -- ---- a clause in order that is listed has different variables
 
 twice_below : (v w p q : ℕ) → v + v + p < w + w + q → p ≤ 1 → q ≤ 1 → v ≤ w

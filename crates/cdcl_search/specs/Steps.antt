@@ -9,6 +9,7 @@ use Rattle.normal_program.specs.ModuleClauses as clauses
 use Rattle.normal_program.specs.StableSets.{Set}
 use Rattle.clause_store.specs.declared.store.ClauseId.{ClauseId}
 use Rattle.clause_store.specs.declared.store.ClauseKind.TheVariants as kinds
+use Rattle.clause_store.specs.Held.{is_clause}
 use Rattle.clause_store.specs.Closure.{Clause, Absorbed, Conflict, IsClosure}
 use Rattle.lit_trail.specs.Sound.{holds}
 use Rattle.model_block.specs.Blocking.{block_of}
@@ -68,17 +69,18 @@ pub record IsLoopOne (old new : View) (one : Kept) : Type 0 where
   pub place : set.clause ≡ length old.kept
   pub loops : new.loops ≡ old.loops ++ set ∷ []
 
--- one clause more, which was counted and which the clauses before don't absorb
+-- one clause more, of different variables of the search, which was counted and which the clauses before don't absorb
 pub record IsOneMore (old new : View) (begun : Begun) (id : ClauseId) : Type 0 where
   pub one : Kept
   pub number : id.place ≡ length old.kept
   pub kept : new.kept ≡ old.kept ++ one ∷ []
   pub length : one.length ≡ begun.n
+  pub distinct : IsTrue (is_clause old.vars one.lits)
   pub came : IsLearntOne old new one ⊎ IsLoopOne old new one
   pub free : Absorbed (clauses_of old) one.lits → ⊥
   pub count : new.begun ≡ Some (record begun { counted = begun.counted + 1 })
 
--- a clause that blocks the walk that the trail is
+-- a clause that blocks the walk that the trail is, with the set of its true variables
 pub record IsBlocked (old new : View) (begun : Begun) (id : ClauseId) : Type 0 where
   pub one : Kept
   pub number : id.place ≡ length old.kept
@@ -86,7 +88,7 @@ pub record IsBlocked (old new : View) (begun : Begun) (id : ClauseId) : Type 0 w
   pub length : one.length ≡ begun.n
   pub kind : one.kind ≡ kinds.Block
   pub lits : one.lits ≡ block_of old.trail.entries (lit_of (ending_of begun))
-  pub blocks : IsAtFound old begun → OfLengths old begun (λ length. (decisions : List Lit) × (S : Set) × IsBlock length (clauses_of old) one.lits decisions S)
+  pub blocks : IsAtFound old begun → OfLengths old begun (λ length. (decisions : List Lit) × IsBlock length (clauses_of old) one.lits decisions (true_set length old.trail.entries))
 
 -- ---- the answers
 

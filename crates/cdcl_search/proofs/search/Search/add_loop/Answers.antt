@@ -54,6 +54,7 @@ returns-clause-added g c =
       number = hold.id ∙ sym count;
       kept = kept_more i.store.clauses i.lengths.items c.hold_false.new.store.clauses c.push_length.new.lengths.items (record { kind = kinds.Loop; lits = nogood.clause }) c.begun.inside.n begun.n c.self.invariant.each added lengths (ap (λ (b : Begun). b.n) c.begun.view_is);
       length = refl;
+      distinct = (loop_false i.ground i.trail nogood c.len-count.ensures.ordered is).0;
       came = inr (record {
         kind = refl;
         set = record { clause = c.in_ok-id.id.place; atom = nogood.atom; set = nogood.set };

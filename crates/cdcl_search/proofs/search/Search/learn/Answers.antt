@@ -44,6 +44,7 @@ returns-clause-added g c =
       number = hold.id ∙ sym (kept_count i.store.clauses i.lengths.items);
       kept = kept_more i.store.clauses i.lengths.items c.hold_learnt.new.store.clauses c.push_length.new.lengths.items (record { kind = kinds.Learnt; lits = learns.lits }) c.begun.inside.n begun.n c.self.invariant.each learns.added lengths (ap (λ (b : Begun). b.n) c.begun.view_is);
       length = refl;
+      distinct = learns.learnt.distinct;
       came = inl (record {
         kind = refl;
         follows = subst (λ (cs : List Clause). Conflict cs (negations learns.lits)) (sym clauses) learns.learnt.follows;
