@@ -27,12 +27,12 @@ use Rattle.search_laws.proofs.FoundTrails.{true_holds}
 use Rattle.template_lengths.proofs.Templates.{templates_composed}
 use Rattle.trace_list.specs.Reading.{state_of, trace_of, FoundAreModels}
 
-same_filter : (p q : ℕ → Bool) (xs : List ℕ) → ((x : ℕ) → In x xs → p x ≡ q x) → filter p xs ≡ filter q xs
+pub same_filter : (p q : ℕ → Bool) (xs : List ℕ) → ((x : ℕ) → In x xs → p x ≡ q x) → filter p xs ≡ filter q xs
 same_filter p q [] h = refl
 same_filter p q (x ∷ xs) h =
     ap (λ (b : Bool). cond b (x ∷ filter p xs) (filter p xs)) (h x (inl refl)) ∙ ap (λ (rest : List ℕ). cond (q x) (x ∷ rest) rest) (same_filter p q xs (λ y i. h y (inr i)))
 
-same_map : (f g : ℕ → List ℕ) (xs : List ℕ) → ((x : ℕ) → In x xs → f x ≡ g x) → map f xs ≡ map g xs
+pub same_map : (f g : ℕ → List ℕ) (xs : List ℕ) → ((x : ℕ) → In x xs → f x ≡ g x) → map f xs ≡ map g xs
 same_map f g [] h = refl
 same_map f g (x ∷ xs) h = (λ i. h x (inl refl) i ∷ same_map f g xs (λ y j. h y (inr j)) i)
 

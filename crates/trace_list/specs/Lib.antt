@@ -1,1 +1,4 @@
 pub mod Reading
+pub mod Lengths
+pub mod Listing
+pub mod Seeking

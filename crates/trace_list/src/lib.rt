@@ -3,6 +3,8 @@
 
 mod laws;
 mod reading;
+mod stages;
 
-pub use laws::found_models;
+pub use laws::{found_models, listed_traces, program_lengths};
 pub use reading::read_trace;
+pub use stages::Next;
