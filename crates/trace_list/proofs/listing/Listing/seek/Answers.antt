@@ -1,0 +1,35 @@
+use Rattle.std.proofs.Common.{◌≡◌, refl, sym, ap, ◌∙◌, inr}
+use Rattle.trace_list.specs.Listing.{View}
+use Rattle.trace_list.proofs.Going.{adds_none, some_then, seeks_none, seeks_then, stays_there, stays_then, not_ended}
+use Rattle.trace_list.proofs.listing.Listing.seek.Goals as goal
+
+pub seeking-init : goal.seeking-init
+seeking-init g c = (
+  c.requires.fits,
+  record { space = refl; n = refl; conflicts = refl },
+  stays_there c.args.self.now c.args.search.now,
+  seeks_none c.args.self.now c.args.search.now c.requires.left,
+  adds_none c.args.search.now.kept c.args.search.now.kept refl,
+  refl,
+  refl,
+)
+
+pub seeking-preserved : goal.seeking-preserved
+seeking-preserved g c =
+    let old = c.args.self.now in
+    let mid = c.seeking.self in
+    let new = c.step.new.self in
+    let before = c.args.search.now in
+    let between = c.seeking.search in
+    let after = c.step.new.search in
+    let so_far = c.seeking.invariant in
+    let step = c.in_ok-step.ensures in
+    let stage = ap (λ (v : View). v.stage) (sym c.self.view_is) ∙ c.in-Seeking.is in (
+      step.fits,
+      record { space = step.same.space ∙ so_far.1.space; n = step.same.n ∙ so_far.1.n; conflicts = step.same.conflicts ∙ so_far.1.conflicts },
+      stays_then old mid new before between after so_far.2 (not_ended mid.stage ((new ≡ mid) × (after ≡ between)) (inr stage)),
+      seeks_then old mid new before between after stage so_far.3 step.seeks,
+      some_then before.kept between.kept after.kept so_far.4 step.adds,
+      step.ground ∙ so_far.5,
+      step.vars ∙ so_far.6,
+    )
