@@ -52,12 +52,14 @@ IsWithin (Some budget) counted = counted ≤ budget
 abbrev pub begun_as : Space → ℕ → ℕ → Begun
 begun_as space n counted = record { space = space; n = n; counted = counted }
 
+-- what holds where a trace was found that isn't blocked yet
 abbrev pub OnFound : Stage → Type 0 → Type 0
 OnFound stages.Found P = P
 OnFound stages.Seeking P = Unit {0}
 OnFound stages.Complete P = Unit {0}
 OnFound stages.Spent P = Unit {0}
 
+-- what holds where the listing has ended
 abbrev pub OnEnded : Stage → Type 0 → Type 0
 OnEnded stages.Complete P = P
 OnEnded stages.Spent P = P

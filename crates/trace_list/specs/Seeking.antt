@@ -21,6 +21,7 @@ left stages.Seeking = stages.Seeking
 left stages.Complete = stages.Complete
 left stages.Spent = stages.Spent
 
+-- what holds where the next trace is still to be found
 abbrev pub OnSeeking : Stage → Type 0 → Type 0
 OnSeeking stages.Seeking P = P
 OnSeeking stages.Found P = Unit {0}
