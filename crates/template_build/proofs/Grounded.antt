@@ -294,17 +294,9 @@ templates_mean_statements statements plain =
     let say = all_say names all.1 0 statements 0 plain (all_placed all.1) in
     append-nil (map (demand_of all.1) all.0) ∙ say.means
 
-pub length-template : (statements : List Statement) → length (template_of statements).atoms ≡ length (atoms_of statements)
-unfolding template_of
-length-template statements = length-plain_atoms (length (atoms_of statements))
-
 -- the parts of the template
 pub is_template : (statements : List Statement) (names : List (List ℕ)) (symbols : List Term) (atoms : List GroundAtom) (pairs : List (ℕ × ℕ)) (nodes : List Node) (instances : List Instance) → names ≡ atoms_of statements → symbols ≡ symbols_of names → atoms ≡ plain_atoms (length names) → pairs ≡ [] → nodes ≡ (ground_all names 0 statements 0).1 → instances ≡ (ground_all names 0 statements 0).0 → ground_of symbols atoms pairs nodes instances shows.All ≡ template_of statements
 unfolding template_of
 is_template statements names symbols atoms pairs nodes instances named s a p n i =
     (λ j. ground_of (s j) (a j) (p j) (n j) (i j) shows.All)
     ∙ (λ j. ground_of (symbols_of (named j)) (plain_atoms (length (named j))) [] (ground_all (named j) 0 statements 0).1 (ground_all (named j) 0 statements 0).0 shows.All)
-
--- the names of a program rise
-pub names-rise : (statements : List Statement) → IsTrue (names_rise (atoms_of statements))
-names-rise statements = rises-with_names (names_of statements) [] refl

@@ -1,5 +1,6 @@
 -- The names of a program, and the numbers of its atoms.
-use Rattle.std.specs.Prelude.{ℕ, List, [], ◌∷◌, ◌++◌, unwrap_or}
+use Rattle.std.specs.Prelude.{ℕ, ◌-◌, ◌<◌, ◌^◌, List, [], ◌∷◌, ◌++◌, length, map, unwrap_or, IsTrue}
+use Rattle.std.specs.Borrow.{Bor}
 use Rattle.std.specs.List.{flat_map, position}
 use Rattle.std.specs.Str.{bytes_eq}
 use Rattle.tel_rule.specs.declared.formulas.Atom.{Atom}
@@ -12,8 +13,12 @@ use Rattle.tel_rule.specs.declared.statements.Head.TheVariants as heads
 use Rattle.tel_rule.specs.declared.statements.Kind.{Kind}
 use Rattle.tel_rule.specs.declared.statements.Kind.TheVariants as kinds
 use Rattle.tel_rule.specs.declared.statements.Statement.{Statement}
-use Rattle.tel_rule.specs.Rising.{rising_set}
+use Rattle.tel_rule.specs.Rising.{names_rise, rising_set}
 use Rattle.template_build.specs.FormulaValues.{formula_value}
+
+-- the names that references see
+abbrev pub seen : List (Bor (List ℕ)) → List (List ℕ)
+seen names = map (λ name. name.now) names
 
 -- the name of an atom
 abbrev pub atom_names : Atom → List (List ℕ)
@@ -60,6 +65,7 @@ atoms_of statements = rising_set (names_of statements)
 abbrev pub number_of : List (List ℕ) → List ℕ → ℕ
 number_of names name = unwrap_or (position (bytes_eq name) names) 0
 
--- the most atoms that a program may have
-abbrev pub most_atoms : ℕ
-most_atoms = 12
+-- names that their places number: they rise, and numbers of 32 bits suffice
+pub record AreNumbered (names : List (List ℕ)) : Type 0 where
+  pub rise : IsTrue (names_rise names)
+  pub few : length names < 2 ^ 32 - 1

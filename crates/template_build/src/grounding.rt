@@ -3,13 +3,13 @@
 ghost use Rattle.std.specs.Prelude.{◌≡◌, ℕ, ◌+◌, ◌<◌, ◌≤◌, ◌^◌, ◌++◌, ◌∷◌, [], length, map, slice_set, None, IfOk, OnOk, IsTrue};
 ghost use Rattle.tel_rule.specs.Rising.{names_rise};
 ghost use Rattle.template_build.specs.Plain.{first_unbuilt};
-ghost use Rattle.template_build.specs.Naming.{atoms_of, most_atoms};
+ghost use Rattle.template_build.specs.Naming.{atoms_of, AreNumbered};
 ghost use Rattle.template_build.specs.Grounding.{in_row, grown, kid_item, atom_item, once, atom_grown, item_grown, twice, ground_literal, ground_body, ground_head, ground_kind, ground_all, symbols_of, plain_atoms, template_of};
 
-use crate::naming::{TemplateFault, names_of, number_of};
+use crate::naming::{names_of, number_of};
 use sqlite_items::Items;
 use std::alloc::Global;
-use tel_base::{Memory, Text};
+use tel_base::{HashKey, Memory, Text};
 use tel_rule::{
     Atom, BodyItem, BodyLit, ConstOp, Formula, GroundAtom, GroundHead, Head, Instance, Kid, Kind,
     LitItem, Literal, Node, NodeOp, Show, Statement, Template, UnaryOp,
@@ -50,7 +50,7 @@ fn grow(
     nodes: &mut Items<Node>,
     formula: &Formula,
 ) -> Result<Kid, Memory>
-    requires { length names.now ≤ most_atoms }
+    requires { AreNumbered names.now }
     ensures kid { IfOk result (λ kid. kid ≡ (grown names.now formula.now (length nodes.old)).0) }
     ensures nodes { OnOk result (nodes.new ≡ nodes.old ++ (grown names.now formula.now (length nodes.old)).1) }
 {
@@ -89,7 +89,7 @@ fn grow_all(
     nodes: &mut Items<Node>,
     formulas: &[Formula],
 ) -> Result<Items<Kid>, Memory>
-    requires { length names.now ≤ most_atoms }
+    requires { AreNumbered names.now }
     ensures kids { IfOk result (λ kids. kids ≡ (in_row (map (grown names.now) formulas.now) (length nodes.old)).0) }
     ensures nodes { OnOk result (nodes.new ≡ nodes.old ++ (in_row (map (grown names.now) formulas.now) (length nodes.old)).1) }
 {
@@ -112,7 +112,7 @@ fn kid_item(kid: Kid) -> BodyItem
 
 /// What an atom of a body looks at.
 fn atom_item(names: &[Text], atom: &Atom) -> BodyItem
-    requires { length names.now ≤ most_atoms }
+    requires { AreNumbered names.now }
     ensures { result ≡ atom_item names.now atom.now }
 {
     let number = number_of(names, atom.name.as_slice());
@@ -132,7 +132,7 @@ fn push_once(
     positive: bool,
     item: &LitItem,
 ) -> Result<(), Memory>
-    requires { length names.now ≤ most_atoms }
+    requires { AreNumbered names.now }
     ensures literals { OnOk result (literals.new ≡ literals.old ++ (once names.now positive item.now (length nodes.old)).0) }
     ensures nodes { OnOk result (nodes.new ≡ nodes.old ++ (once names.now positive item.now (length nodes.old)).1) }
 {
@@ -158,7 +158,7 @@ fn grow_atom(
     nodes: &mut Items<Node>,
     atom: &Atom,
 ) -> Result<Kid, Memory>
-    requires { length names.now ≤ most_atoms }
+    requires { AreNumbered names.now }
     ensures kid { IfOk result (λ kid. kid ≡ (atom_grown names.now atom.now (length nodes.old)).0) }
     ensures nodes { OnOk result (nodes.new ≡ nodes.old ++ (atom_grown names.now atom.now (length nodes.old)).1) }
 {
@@ -180,7 +180,7 @@ fn grow_item(
     nodes: &mut Items<Node>,
     item: &LitItem,
 ) -> Result<Kid, Memory>
-    requires { length names.now ≤ most_atoms }
+    requires { AreNumbered names.now }
     ensures kid { IfOk result (λ kid. kid ≡ (item_grown names.now item.now (length nodes.old)).0) }
     ensures nodes { OnOk result (nodes.new ≡ nodes.old ++ (item_grown names.now item.now (length nodes.old)).1) }
 {
@@ -199,7 +199,7 @@ fn push_twice(
     literals: &mut Items<BodyLit>,
     item: &LitItem,
 ) -> Result<(), Memory>
-    requires { length names.now ≤ most_atoms }
+    requires { AreNumbered names.now }
     ensures literals { OnOk result (literals.new ≡ literals.old ++ (twice names.now item.now (length nodes.old)).0) }
     ensures nodes { OnOk result (nodes.new ≡ nodes.old ++ (twice names.now item.now (length nodes.old)).1) }
 {
@@ -223,7 +223,7 @@ fn push_literal(
     literals: &mut Items<BodyLit>,
     literal: &Literal,
 ) -> Result<(), Memory>
-    requires { length names.now ≤ most_atoms }
+    requires { AreNumbered names.now }
     ensures literals { OnOk result (literals.new ≡ literals.old ++ (ground_literal names.now literal.now (length nodes.old)).0) }
     ensures nodes { OnOk result (nodes.new ≡ nodes.old ++ (ground_literal names.now literal.now (length nodes.old)).1) }
 {
@@ -248,7 +248,7 @@ fn ground_body(
     nodes: &mut Items<Node>,
     body: &[Literal],
 ) -> Result<Items<BodyLit>, Memory>
-    requires { length names.now ≤ most_atoms }
+    requires { AreNumbered names.now }
     ensures literals { IfOk result (λ literals. literals ≡ (ground_body names.now body.now (length nodes.old)).0) }
     ensures nodes { OnOk result (nodes.new ≡ nodes.old ++ (ground_body names.now body.now (length nodes.old)).1) }
 {
@@ -261,7 +261,7 @@ fn ground_body(
 
 /// A head over the numbers of the atoms.
 fn ground_head(names: &[Text], head: &Head) -> GroundHead
-    requires { length names.now ≤ most_atoms }
+    requires { AreNumbered names.now }
     ensures { result ≡ ground_head names.now head.now }
 {
     match head {
@@ -286,7 +286,7 @@ fn push_instance(
     number: u32,
     statement: &Statement,
 ) -> Result<(), Memory>
-    requires { length names.now ≤ most_atoms }
+    requires { AreNumbered names.now }
     ensures instances { OnOk result (instances.new ≡ instances.old ++ (ground_kind names.now number statement.now.part statement.now.kind (length nodes.old)).0) }
     ensures nodes { OnOk result (nodes.new ≡ nodes.old ++ (ground_kind names.now number statement.now.part statement.now.kind (length nodes.old)).1) }
 {
@@ -324,8 +324,8 @@ fn ground_all(
     nodes: &mut Items<Node>,
     statements: &[Statement],
 ) -> Result<Items<Instance>, Memory>
-    requires few { length names.now ≤ most_atoms }
-    requires numbered { length statements.now < 2 ^ 32 }
+    requires names { AreNumbered names.now }
+    requires statements { length statements.now < 2 ^ 32 }
     ensures instances { IfOk result (λ instances. instances ≡ (ground_all names.now 0 statements.now (length nodes.old)).0) }
     ensures nodes { OnOk result (nodes.new ≡ nodes.old ++ (ground_all names.now 0 statements.now (length nodes.old)).1) }
 {
@@ -345,11 +345,10 @@ fn ground_all(
 
 /// The names as symbols, in the same order.
 fn symbols_of(alloc: Global, names: &[Text]) -> Result<Symbols, Memory>
-    requires few { length names.now ≤ most_atoms }
-    requires rise { IsTrue (names_rise names.now) }
+    requires { AreNumbered names.now }
     ensures { IfOk result (λ symbols. symbols ≡ symbols_of names.now) }
 {
-    let mut symbols = Symbols::new(alloc);
+    let mut symbols = Symbols::keyed(alloc, HashKey::of(names));
     for name in names {
         let name = Text::from_slice(alloc, name.as_slice())?;
         let _ = symbols.value(Term::Name(name))?;
@@ -374,8 +373,8 @@ fn plain_atoms(alloc: Global, count: u32) -> Result<Items<GroundAtom>, Memory>
 
 /// The template of these statements over their names.
 fn build(alloc: Global, names: &[Text], statements: &[Statement]) -> Result<Template, Memory>
-    requires few { length names.now ≤ most_atoms }
-    requires numbered { length statements.now < 2 ^ 32 }
+    requires numbered { AreNumbered names.now }
+    requires statements { length statements.now < 2 ^ 32 }
     requires named { names.now ≡ atoms_of statements.now }
     requires plain { first_unbuilt statements.now ≡ None }
     ensures { IfOk result (λ template. template ≡ template_of statements.now) }
@@ -395,21 +394,12 @@ fn build(alloc: Global, names: &[Text], statements: &[Statement]) -> Result<Temp
 }
 
 /// The template of a program of plain statements: its names, each once and in order, are the atoms,
-/// and each statement is an instance. `Large` comes exactly where it has too many different names.
-pub fn template(alloc: Global, statements: &[Statement]) -> Result<Template, TemplateFault>
+/// and each statement is an instance. More names or nodes than numbers count as want of memory.
+pub fn template(alloc: Global, statements: &[Statement]) -> Result<Template, Memory>
     requires numbered { length statements.now < 2 ^ 32 }
     requires plain { first_unbuilt statements.now ≡ None }
-    ensures ok { IfOk result (λ template. template ≡ template_of statements.now) }
-    ensures count { IfOk result (λ template. length template.atoms ≡ length (atoms_of statements.now)) }
-    ensures few { OnOk result (length (atoms_of statements.now) ≤ most_atoms) }
-    ensures large { result ≡ Err TemplateFault.Large → most_atoms < length (atoms_of statements.now) }
+    ensures { IfOk result (λ template. template ≡ template_of statements.now) }
 {
-    let names = match names_of(alloc, statements) {
-        Ok(names) => names,
-        Err(fault) => return Err(fault),
-    };
-    match build(alloc, names.as_slice(), statements) {
-        Ok(template) => Ok(template),
-        Err(_) => Err(TemplateFault::Memory),
-    }
+    let names = names_of(alloc, statements)?;
+    build(alloc, names.as_slice(), statements)
 }

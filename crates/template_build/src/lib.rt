@@ -9,5 +9,4 @@ mod plain;
 
 pub use grounding::template;
 pub use laws::statements;
-pub use naming::TemplateFault;
 pub use plain::first_unbuilt;

@@ -1,192 +1,150 @@
-//! The names of a program, each once and in order.
-ghost use Rattle.std.specs.Prelude.{◌≡◌, ℕ, ◌+◌, ◌<◌, ◌≤◌, ◌^◌, List, [], ◌∷◌, ◌++◌, length, map, insert, IfOk, OnOk, IfSome, MatchOption, vec_len};
-ghost use Rattle.std.specs.List.{position, flat_map};
-ghost use Rattle.std.specs.Str.{bytes_eq};
-ghost use Rattle.tel_rule.specs.Rising.{with_name, with_names};
-ghost use Rattle.template_build.specs.Naming.{joined, formula_names, item_names, literal_names, head_names, kind_names, names_of, atoms_of, number_of, most_atoms};
+//! The names of a program, each once and in order, and the numbers of its atoms.
+ghost use Rattle.std.specs.Prelude.{◌≡◌, ℕ, ◌-◌, ◌<◌, ◌^◌, List, [], ◌∷◌, ◌++◌, length, map, IfOk, OnOk, IsTrue};
+ghost use Rattle.std.specs.List.{flat_map};
+ghost use Rattle.tel_rule.specs.Rising.{names_rise};
+ghost use Rattle.template_build.specs.Naming.{seen, joined, formula_names, literal_names, head_names, kind_names, names_of, atoms_of, number_of, AreNumbered};
 
 use std::alloc::Global;
-use tel_base::Text;
-use tel_rule::{Formula, Head, Kind, LitItem, Literal, Statement, insert_name, place_of};
+use tel_base::{Memory, Text};
+use tel_rule::{Formula, Head, Kind, LitItem, Literal, Statement};
 
-/// Why a program has no template.
-#[derive(Clone, Copy, Debug, PartialEq, Eq)]
-pub enum TemplateFault {
-    /// It has more different names than it may have.
-    Large,
-    /// There was no memory for it.
-    Memory,
-}
-
-/// The most atoms that a program may have.
-const MOST_ATOMS: usize = 12;
-
-/// Puts a name among the names, unless it is there.
-fn add_name(alloc: Global, names: &mut Vec<Text>, name: &[u8]) -> Result<(), TemplateFault>
-    requires { vec_len names.old ≤ most_atoms }
-    ensures ok { OnOk result (names.new.items ≡ with_name name.now names.old.items) }
-    ensures few { OnOk result (vec_len names.new ≤ most_atoms) }
-    ensures large { result ≡ Err TemplateFault.Large → most_atoms < length (with_name name.now names.old.items) }
+/// Puts a name behind these names.
+fn add_name<'a>(names: &mut Vec<&'a [u8]>, name: &'a [u8]) -> Result<(), Memory>
+    ensures { OnOk result (seen names.new.items ≡ seen names.old.items ++ name.now ∷ []) }
 {
-    let Some(place) = place_of(names.as_slice(), name) else {
-        return Ok(());
-    };
-    if names.len() == MOST_ATOMS {
-        return Err(TemplateFault::Large);
-    }
-    match insert_name(alloc, names, place, name) {
-        Ok(()) => Ok(()),
-        Err(_) => Err(TemplateFault::Memory),
-    }
+    names.push(name)?;
+    Ok(())
 }
 
-/// Puts the names of a formula among the names.
+/// Puts the names of a formula behind these names.
 #[cycle(names_of_formulas)]
-fn add_formula(alloc: Global, names: &mut Vec<Text>, formula: &Formula) -> Result<(), TemplateFault>
-    requires { vec_len names.old ≤ most_atoms }
-    ensures ok { OnOk result (names.new.items ≡ with_names (formula_names formula.now) names.old.items) }
-    ensures few { OnOk result (vec_len names.new ≤ most_atoms) }
-    ensures large { result ≡ Err TemplateFault.Large → most_atoms < length (with_names (formula_names formula.now) names.old.items) }
+fn add_formula<'a>(names: &mut Vec<&'a [u8]>, formula: &'a Formula) -> Result<(), Memory>
+    ensures { OnOk result (seen names.new.items ≡ seen names.old.items ++ formula_names formula.now) }
 {
     match formula {
         Formula::Const(_) => Ok(()),
-        Formula::Atom(atom) => add_name(alloc, names, atom.name.as_slice()),
-        Formula::Unary(_, operand) => add_formula(alloc, names, operand.get()),
-        Formula::Binary(_, left, right) => match add_formula(alloc, names, left.get()) {
-            Ok(()) => add_formula(alloc, names, right.get()),
-            Err(fault) => Err(fault),
-        },
-        Formula::Many(_, operands) => add_formulas(alloc, names, operands.as_slice()),
+        Formula::Atom(atom) => add_name(names, atom.name.as_slice()),
+        Formula::Unary(_, operand) => add_formula(names, operand.get()),
+        Formula::Binary(_, left, right) => {
+            add_formula(names, left.get())?;
+            add_formula(names, right.get())?;
+            Ok(())
+        }
+        Formula::Many(_, operands) => add_formulas(names, operands.as_slice()),
     }
 }
 
-/// Puts the names of these formulas among the names.
+/// Puts the names of these formulas behind these names.
 #[cycle(names_of_formulas)]
-fn add_formulas(
-    alloc: Global,
-    names: &mut Vec<Text>,
-    formulas: &[Formula],
-) -> Result<(), TemplateFault>
-    requires { vec_len names.old ≤ most_atoms }
-    ensures ok { OnOk result (names.new.items ≡ with_names (joined (map formula_names formulas.now)) names.old.items) }
-    ensures few { OnOk result (vec_len names.new ≤ most_atoms) }
-    ensures large { result ≡ Err TemplateFault.Large → most_atoms < length (with_names (joined (map formula_names formulas.now)) names.old.items) }
+fn add_formulas<'a>(names: &mut Vec<&'a [u8]>, formulas: &'a [Formula]) -> Result<(), Memory>
+    ensures { OnOk result (seen names.new.items ≡ seen names.old.items ++ joined (map formula_names formulas.now)) }
 {
     for formula in formulas {
-        match add_formula(alloc, names, formula) {
-            Ok(()) => {}
-            Err(fault) => return Err(fault),
-        }
+        add_formula(names, formula)?;
     }
     Ok(())
 }
 
-/// Puts the names of a literal among the names.
-fn add_literal(alloc: Global, names: &mut Vec<Text>, literal: &Literal) -> Result<(), TemplateFault>
-    requires { vec_len names.old ≤ most_atoms }
-    ensures ok { OnOk result (names.new.items ≡ with_names (literal_names literal.now) names.old.items) }
-    ensures few { OnOk result (vec_len names.new ≤ most_atoms) }
-    ensures large { result ≡ Err TemplateFault.Large → most_atoms < length (with_names (literal_names literal.now) names.old.items) }
+/// Puts the names of a literal behind these names.
+fn add_literal<'a>(names: &mut Vec<&'a [u8]>, literal: &'a Literal) -> Result<(), Memory>
+    ensures { OnOk result (seen names.new.items ≡ seen names.old.items ++ literal_names literal.now) }
 {
     match &literal.item {
-        LitItem::Atom(atom) => add_name(alloc, names, atom.name.as_slice()),
-        LitItem::Tel(formula) => add_formula(alloc, names, formula),
+        LitItem::Atom(atom) => add_name(names, atom.name.as_slice()),
+        LitItem::Tel(formula) => add_formula(names, formula),
         LitItem::Compare(..) => Ok(()),
     }
 }
 
-/// Puts the names of a body among the names.
-fn add_body(alloc: Global, names: &mut Vec<Text>, body: &[Literal]) -> Result<(), TemplateFault>
-    requires { vec_len names.old ≤ most_atoms }
-    ensures ok { OnOk result (names.new.items ≡ with_names (flat_map literal_names body.now) names.old.items) }
-    ensures few { OnOk result (vec_len names.new ≤ most_atoms) }
-    ensures large { result ≡ Err TemplateFault.Large → most_atoms < length (with_names (flat_map literal_names body.now) names.old.items) }
+/// Puts the names of a body behind these names.
+fn add_body<'a>(names: &mut Vec<&'a [u8]>, body: &'a [Literal]) -> Result<(), Memory>
+    ensures { OnOk result (seen names.new.items ≡ seen names.old.items ++ flat_map literal_names body.now) }
 {
     for literal in body {
-        match add_literal(alloc, names, literal) {
-            Ok(()) => {}
-            Err(fault) => return Err(fault),
-        }
+        add_literal(names, literal)?;
     }
     Ok(())
 }
 
-/// Puts the name of a head among the names.
-fn add_head(alloc: Global, names: &mut Vec<Text>, head: &Head) -> Result<(), TemplateFault>
-    requires { vec_len names.old ≤ most_atoms }
-    ensures ok { OnOk result (names.new.items ≡ with_names (head_names head.now) names.old.items) }
-    ensures few { OnOk result (vec_len names.new ≤ most_atoms) }
-    ensures large { result ≡ Err TemplateFault.Large → most_atoms < length (with_names (head_names head.now) names.old.items) }
+/// Puts the name of a head behind these names.
+fn add_head<'a>(names: &mut Vec<&'a [u8]>, head: &'a Head) -> Result<(), Memory>
+    ensures { OnOk result (seen names.new.items ≡ seen names.old.items ++ head_names head.now) }
 {
     match head {
-        Head::Normal(atom) => add_name(alloc, names, atom.name.as_slice()),
-        Head::Choice(atom) => add_name(alloc, names, atom.name.as_slice()),
+        Head::Normal(atom) => add_name(names, atom.name.as_slice()),
+        Head::Choice(atom) => add_name(names, atom.name.as_slice()),
         Head::None => Ok(()),
     }
 }
 
-/// Puts the names of a rule among the names.
-fn add_rule(
-    alloc: Global,
-    names: &mut Vec<Text>,
-    head: &Head,
-    body: &[Literal],
-) -> Result<(), TemplateFault>
-    requires { vec_len names.old ≤ most_atoms }
-    ensures ok { OnOk result (names.new.items ≡ with_names (head_names head.now ++ flat_map literal_names body.now) names.old.items) }
-    ensures few { OnOk result (vec_len names.new ≤ most_atoms) }
-    ensures large { result ≡ Err TemplateFault.Large → most_atoms < length (with_names (head_names head.now ++ flat_map literal_names body.now) names.old.items) }
+/// Puts the names of a rule behind these names.
+fn add_rule<'a>(
+    names: &mut Vec<&'a [u8]>,
+    head: &'a Head,
+    body: &'a [Literal],
+) -> Result<(), Memory>
+    ensures { OnOk result (seen names.new.items ≡ seen names.old.items ++ (head_names head.now ++ flat_map literal_names body.now)) }
 {
-    match add_head(alloc, names, head) {
-        Ok(()) => add_body(alloc, names, body),
-        Err(fault) => Err(fault),
-    }
+    add_head(names, head)?;
+    add_body(names, body)?;
+    Ok(())
 }
 
-/// Puts the names of what a statement says among the names.
-fn add_kind(alloc: Global, names: &mut Vec<Text>, kind: &Kind) -> Result<(), TemplateFault>
-    requires { vec_len names.old ≤ most_atoms }
-    ensures ok { OnOk result (names.new.items ≡ with_names (kind_names kind.now) names.old.items) }
-    ensures few { OnOk result (vec_len names.new ≤ most_atoms) }
-    ensures large { result ≡ Err TemplateFault.Large → most_atoms < length (with_names (kind_names kind.now) names.old.items) }
+/// Puts the names of what a statement says behind these names.
+fn add_kind<'a>(names: &mut Vec<&'a [u8]>, kind: &'a Kind) -> Result<(), Memory>
+    ensures { OnOk result (seen names.new.items ≡ seen names.old.items ++ kind_names kind.now) }
 {
     match kind {
-        Kind::Rule(head, body) => add_rule(alloc, names, head, body.as_slice()),
-        Kind::Facts(fact) => add_name(alloc, names, fact.name.as_slice()),
+        Kind::Rule(head, body) => add_rule(names, head, body.as_slice()),
+        Kind::Facts(fact) => add_name(names, fact.name.as_slice()),
         Kind::Const(..) | Kind::Show(_) => Ok(()),
     }
 }
 
-/// The names of a program, each once and in order.
-pub fn names_of(alloc: Global, statements: &[Statement]) -> Result<Vec<Text>, TemplateFault>
-    ensures ok { IfOk result (λ names. names.items ≡ atoms_of statements.now) }
-    ensures few { IfOk result (λ names. vec_len names ≤ most_atoms) }
-    ensures large { result ≡ Err TemplateFault.Large → most_atoms < length (atoms_of statements.now) }
+/// The names that stand in a program, in the order in which they stand there.
+fn all_names<'a>(alloc: Global, statements: &'a [Statement]) -> Result<Vec<&'a [u8]>, Memory>
+    ensures { IfOk result (λ names. seen names.items ≡ names_of statements.now) }
 {
     let mut names = Vec::new(alloc);
     for statement in statements {
-        match add_kind(alloc, &mut names, &statement.kind) {
-            Ok(()) => {}
-            Err(fault) => return Err(fault),
-        }
+        add_kind(&mut names, &statement.kind)?;
     }
     Ok(names)
 }
 
-/// The place of this name among the names.
-fn find_name(names: &[Text], name: &[u8]) -> Option<usize>
-    ensures { result ≡ position (bytes_eq name.now) names.now }
+/// Copies of these names.
+fn copies(alloc: Global, names: &[&[u8]]) -> Result<Vec<Text>, Memory>
+    ensures { IfOk result (λ copies. copies.items ≡ seen names.now) }
 {
-    names.iter().position(|other| name == other.as_slice())
+    let mut copies = Vec::new(alloc);
+    for name in names {
+        copies.push(Text::from_slice(alloc, name)?)?;
+    }
+    Ok(copies)
+}
+
+/// The names of a program, each once and in order. More names than numbers count as want of memory,
+/// which they would use up first.
+pub fn names_of(alloc: Global, statements: &[Statement]) -> Result<Vec<Text>, Memory>
+    ensures names { IfOk result (λ names. names.items ≡ atoms_of statements.now) }
+    ensures numbered { IfOk result (λ names. AreNumbered names.items) }
+{
+    let mut names = all_names(alloc, statements)?;
+    names.sort_unstable();
+    names.dedup();
+    if names.len() >= u32::MAX as usize {
+        return Err(Memory);
+    }
+    copies(alloc, names.as_slice())
 }
 
 /// The number of the atom with this name.
 pub fn number_of(names: &[Text], name: &[u8]) -> u32
-    requires { length names.now ≤ most_atoms }
+    requires { AreNumbered names.now }
     ensures { result ≡ number_of names.now name.now }
 {
-    match find_name(names, name) {
-        Some(number) => number as u32,
-        None => 0,
+    match names.binary_search_by(|other| other.as_slice().cmp(name)) {
+        Ok(number) => number as u32,
+        Err(_) => 0,
     }
 }

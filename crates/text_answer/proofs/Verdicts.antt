@@ -13,7 +13,6 @@ use Rattle.part_syntax.specs.declared.fault.ReadFault.TheVariants as faults
 use Rattle.part_syntax.specs.Programs.{IsProgram, IsFirstFault, total_bytes}
 use Rattle.part_syntax.proofs.Decided.{some_verdict as program_or_fault}
 use Rattle.template_build.specs.Plain.{first_unbuilt}
-use Rattle.template_build.specs.Naming.{most_atoms}
 use Rattle.template_build.specs.Grounding.{template_of}
 use Rattle.text_answer.specs.Delivery.{Delivers}
 use Rattle.rule_constants.specs.Replaced.{IsReplaced}
@@ -23,7 +22,7 @@ use Rattle.rule_check.specs.Causes.{IsSound, IsFirstCause}
 use Rattle.rule_constants.proofs.OneReplaced.{one_replaced}
 use Rattle.rule_check.proofs.OneCause.{one_cause, sound_none}
 use Rattle.rule_check.proofs.SomeCause.{sound_or_cause}
-use Rattle.text_answer.specs.Verdict.{largest_text, Verdict, Accepted, Refused, Faulty, Unbuilt, Large, SayChecked, SayPlain, IsVerdict, places_of, count_of, status_of, output_of, cause_line, large_line, fault_line, TellsOfText, ComesOfText, is_among, Answers}
+use Rattle.text_answer.specs.Verdict.{largest_text, Verdict, Accepted, Refused, Faulty, Unbuilt, Large, SayChecked, SayPlain, IsVerdict, most_places, places_of, count_of, status_of, output_of, cause_line, large_line, fault_line, TellsOfText, ComesOfText, is_among, Answers}
 use Rattle.text_answer.specs.Refusals.{DeliversFault, DeliversCause, DeliversProgram, DeliversRead}
 
 -- what is delivered for a program is so for what the texts say it is
@@ -99,7 +98,7 @@ checked_has D settings texts program (Some place) is small says delivers =
     (Unbuilt place, (small, record { program = program; checked = says; first = is }), delivers.unbuilt place is)
 checked_has D settings texts program None is small says delivers =
     let plain : SayPlain texts program = record { checked = says; plain = is } in
-    elim (cases_lt most_atoms (places_of settings program)) [
+    elim (cases_lt most_places (places_of settings program)) [
       | inl many ↦ (Large, inr (small, (program, plain, many)), delivers.large is many)
       | inr few ↦ (Accepted program, (small, plain, few), delivers.accepted is few)
     ]

@@ -11,9 +11,8 @@ use Rattle.rule_constants.specs.Replaced.{IsReplaced}
 use Rattle.text_answer.specs.declared.answering.PlainFault.{PlainFault}
 use Rattle.text_answer.specs.declared.answering.PlainFault.TheVariants as plain
 use Rattle.template_build.specs.Plain.{first_unbuilt}
-use Rattle.template_build.specs.Naming.{most_atoms}
 use Rattle.text_answer.specs.Delivery.{Delivers}
-use Rattle.text_answer.specs.Verdict.{Accepted, line_at, named, cause_line, unbuilt_line, large_line, places_of, status_of, output_of}
+use Rattle.text_answer.specs.Verdict.{Accepted, line_at, named, cause_line, unbuilt_line, large_line, most_places, places_of, status_of, output_of}
 
 -- a fault of the reader is delivered, and for want of memory nothing is printed
 abbrev pub DeliversFault : ReadFault → ℕ → Option (List ℕ) → Option (List ℕ) → Type 0
@@ -32,14 +31,14 @@ DeliversCause (causes.Const place name) result old new = Delivers result 65 (cau
 -- many names
 abbrev pub IsPlainFault : Settings → Program → PlainFault → Type 0
 IsPlainFault settings program (plain.Unbuilt place) = first_unbuilt program.statements ≡ Some place
-IsPlainFault settings program plain.Large = (first_unbuilt program.statements ≡ None) × (most_atoms < places_of settings program)
+IsPlainFault settings program plain.Large = (first_unbuilt program.statements ≡ None) × (most_places < places_of settings program)
 IsPlainFault settings program plain.Memory = Unit {0}
 
 -- what is delivered for a program without a cause
 pub record DeliversProgram (D : ℕ → List ℕ → Type 0) (settings : Settings) (program : Program) : Type 0 where
-  pub accepted : first_unbuilt program.statements ≡ None → places_of settings program ≤ most_atoms → D (status_of settings (Accepted program)) (output_of settings (Accepted program))
+  pub accepted : first_unbuilt program.statements ≡ None → places_of settings program ≤ most_places → D (status_of settings (Accepted program)) (output_of settings (Accepted program))
   pub unbuilt : (place : Place) → first_unbuilt program.statements ≡ Some place → D 65 (unbuilt_line place)
-  pub large : first_unbuilt program.statements ≡ None → most_atoms < places_of settings program → D 69 large_line
+  pub large : first_unbuilt program.statements ≡ None → most_places < places_of settings program → D 69 large_line
 
 -- what is delivered for a program as it is read: as for what it is with its constants replaced, or for its first cause
 pub record DeliversRead (D : ℕ → List ℕ → Type 0) (settings : Settings) (program : Program) : Type 0 where

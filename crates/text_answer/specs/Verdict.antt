@@ -19,7 +19,6 @@ use Rattle.rule_check.specs.declared.faults.CheckFault.{CheckFault}
 use Rattle.rule_check.specs.declared.faults.CheckFault.TheVariants as causes
 use Rattle.rule_check.specs.Causes.{IsSound, IsFirstCause}
 use Rattle.template_build.specs.Plain.{first_unbuilt}
-use Rattle.template_build.specs.Naming.{atoms_of, most_atoms}
 use Rattle.template_build.specs.Grounding.{template_of}
 
 -- the most bytes that all texts together may have
@@ -35,9 +34,16 @@ pub data Verdict : Type 0 where
   Unbuilt : Place → Verdict
   Large : Verdict
 
--- how many atoms the greatest length has in all its states, or one state where no length is run
+-- the most places that all states of the greatest length may have together
+abbrev pub most_places : ℕ
+most_places = 12
+
+-- how many places a program has in all states of the greatest length, or in one state where no length is run: one for each atom
+abbrev pub places_in : Settings → Ground → ℕ
+places_in settings program = max settings.imax 1 * length program.atoms
+
 abbrev pub places_of : Settings → Program → ℕ
-places_of settings program = max settings.imax 1 * length (atoms_of program.statements)
+places_of settings program = places_in settings (template_of program.statements)
 
 -- the texts are a program in which no cause stands, and with its constants replaced it is this one
 pub record SayChecked (texts : List (List ℕ)) (program : Program) : Type 0 where
@@ -66,11 +72,11 @@ pub record SayUnbuilt (texts : List (List ℕ)) (place : Place) : Type 0 where
 -- The size is looked at first, then the grammar, then the causes of statements, then which statements are plain, and then the number of different names
 -- at the greatest length.
 abbrev pub IsVerdict : Settings → List (List ℕ) → Verdict → Type 0
-IsVerdict settings texts (Accepted program) = (total_bytes texts ≤ largest_text) × SayPlain texts program × (places_of settings program ≤ most_atoms)
+IsVerdict settings texts (Accepted program) = (total_bytes texts ≤ largest_text) × SayPlain texts program × (places_of settings program ≤ most_places)
 IsVerdict settings texts (Refused fault) = (total_bytes texts ≤ largest_text) × IsFirstFault texts fault
 IsVerdict settings texts (Faulty cause) = (total_bytes texts ≤ largest_text) × SayFaulty texts cause
 IsVerdict settings texts (Unbuilt place) = (total_bytes texts ≤ largest_text) × SayUnbuilt texts place
-IsVerdict settings texts Large = (largest_text < total_bytes texts) ⊎ ((total_bytes texts ≤ largest_text) × ((program : Program) × SayPlain texts program × (most_atoms < places_of settings program)))
+IsVerdict settings texts Large = (largest_text < total_bytes texts) ⊎ ((total_bytes texts ≤ largest_text) × ((program : Program) × SayPlain texts program × (most_places < places_of settings program)))
 
 -- how many temporal equilibrium models of length n there are
 abbrev pub count_of : Ground → ℕ → ℕ

@@ -4,10 +4,9 @@ ghost use Rattle.tel_base.specs.declared.places.Place.{Place};
 ghost use Rattle.tel_settings.specs.Run.{run_status};
 ghost use Rattle.part_syntax.specs.Programs.{total_bytes};
 ghost use Rattle.template_build.specs.Plain.{first_unbuilt};
-ghost use Rattle.template_build.specs.Naming.{most_atoms};
 ghost use Rattle.template_build.specs.Grounding.{template_of};
 ghost use Rattle.text_answer.specs.Delivery.{code_of, Delivers, TellsFaults};
-ghost use Rattle.text_answer.specs.Verdict.{largest_text, Verdict, Accepted, IsVerdict, places_of, count_of, printed_run, status_of, output_of, large_line, unbuilt_line, TellsOfText, ComesOfText, Answers};
+ghost use Rattle.text_answer.specs.Verdict.{largest_text, Verdict, Accepted, IsVerdict, most_places, places_in, places_of, count_of, printed_run, status_of, output_of, large_line, unbuilt_line, TellsOfText, ComesOfText, Answers};
 ghost use Rattle.text_answer.specs.Refusals.{DeliversFault, DeliversCause, DeliversRead, IsPlainFault};
 
 use crate::refusing::{refuse_at, refuse_large, refuse_named};
@@ -19,7 +18,7 @@ use std::alloc::Global;
 use tel_base::{Place, Sink, Text};
 use tel_rule::{Program, Template};
 use tel_settings::Settings;
-use template_build::{TemplateFault, first_unbuilt, template};
+use template_build::{first_unbuilt, template};
 
 /// The most atoms that all states of the greatest length may have together.
 const MOST_PLACES: u64 = 12;
@@ -53,7 +52,7 @@ fn answer_template<O: Sink>(
     settings: &Settings,
     template: &Template,
 ) -> Status
-    requires { max settings.now.imax 1 * length template.now.atoms ≤ most_atoms }
+    requires { places_in settings.now template.now ≤ most_places }
     ensures delivers { Delivers (code_of result) (run_status settings.now (count_of template.now)) (printed_run settings.now template.now) (O.bytes out.old) (O.bytes out.new) }
     ensures faults { TellsFaults (code_of result) (O.faults out.old) (O.faults out.new) }
 {
@@ -64,12 +63,12 @@ fn answer_template<O: Sink>(
     }
 }
 
-/// Whether a program of so many atoms has too many at the greatest length.
-fn is_too_large(settings: &Settings, atoms: usize) -> bool
-    requires { atoms ≤ most_atoms }
-    ensures { IsTrue result ↔ (most_atoms < max settings.now.imax 1 * atoms) }
+/// Whether a program has too many places at the greatest length.
+fn is_too_large(settings: &Settings, template: &Template) -> bool
+    ensures { IsTrue result ↔ (most_places < places_in settings.now template.now) }
 {
-    MOST_PLACES < u64::from(settings.imax.max(1)) * atoms as u64
+    let places = template.atoms.len() as u64;
+    MOST_PLACES < u64::from(settings.imax.max(1)).saturating_mul(places)
 }
 
 /// The template of a program whose statements are plain, and whose names are few.
@@ -77,8 +76,8 @@ fn build(alloc: Global, settings: &Settings, program: &Program) -> Result<Templa
     requires { length program.now.statements < 2 ^ 32 }
     ensures ok { IfOk result (λ template. template ≡ template_of program.now.statements) }
     ensures all_plain { OnOk result (first_unbuilt program.now.statements ≡ None) }
-    ensures few { OnOk result (places_of settings.now program.now ≤ most_atoms) }
-    ensures room { IfOk result (λ template. max settings.now.imax 1 * length template.atoms ≤ most_atoms) }
+    ensures few { OnOk result (places_of settings.now program.now ≤ most_places) }
+    ensures room { IfOk result (λ template. places_in settings.now template ≤ most_places) }
     ensures fault { IfErr result (λ fault. IsPlainFault settings.now program.now fault) }
 {
     let statements = program.statements.as_slice();
@@ -87,10 +86,9 @@ fn build(alloc: Global, settings: &Settings, program: &Program) -> Result<Templa
     }
     let template = match template(alloc, statements) {
         Ok(template) => template,
-        Err(TemplateFault::Large) => return Err(PlainFault::Large),
-        Err(TemplateFault::Memory) => return Err(PlainFault::Memory),
+        Err(_) => return Err(PlainFault::Memory),
     };
-    if is_too_large(settings, template.atoms.len()) {
+    if is_too_large(settings, &template) {
         return Err(PlainFault::Large);
     }
     Ok(template)
@@ -104,11 +102,11 @@ fn answer_program<O: Sink>(
     program: &Program,
 ) -> Status
     requires { length program.now.statements < 2 ^ 32 }
-    ensures accepted { first_unbuilt program.now.statements ≡ None → places_of settings.now program.now ≤ most_atoms
+    ensures accepted { first_unbuilt program.now.statements ≡ None → places_of settings.now program.now ≤ most_places
         → Delivers (code_of result) (status_of settings.now (Accepted program.now)) (output_of settings.now (Accepted program.now)) (O.bytes out.old) (O.bytes out.new) }
     ensures unbuilt { (place : Place) → first_unbuilt program.now.statements ≡ Some place
         → Delivers (code_of result) 65 (unbuilt_line place) (O.bytes out.old) (O.bytes out.new) }
-    ensures large { first_unbuilt program.now.statements ≡ None → most_atoms < places_of settings.now program.now
+    ensures large { first_unbuilt program.now.statements ≡ None → most_places < places_of settings.now program.now
         → Delivers (code_of result) 69 large_line (O.bytes out.old) (O.bytes out.new) }
     ensures faults { TellsFaults (code_of result) (O.faults out.old) (O.faults out.new) }
 {

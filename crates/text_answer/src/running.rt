@@ -3,9 +3,8 @@ ghost use Rattle.std.specs.Prelude.{◌≡◌, ℕ, ◌*◌, ◌≤◌, ◌||◌
 ghost use Rattle.std.specs.List.{flat_map, list_any};
 ghost use Rattle.tel_semantics.specs.Equilibrium.{list_of};
 ghost use Rattle.tel_settings.specs.Run.{lengths_of};
-ghost use Rattle.template_build.specs.Naming.{most_atoms};
 ghost use Rattle.text_answer.specs.Running.{Runs};
-ghost use Rattle.text_answer.specs.Verdict.{count_of, printed_length, printed_run};
+ghost use Rattle.text_answer.specs.Verdict.{most_places, places_in, count_of, printed_length, printed_run};
 
 use std::alloc::Global;
 use tel_base::Sink;
@@ -30,7 +29,7 @@ fn print_length_of<O: Sink>(
     template: &Template,
     n: u32,
 ) -> Result<usize, RunFault>
-    requires { length template.now.atoms * n ≤ most_atoms }
+    requires { length template.now.atoms * n ≤ most_places }
     ensures count { IfOk result (λ count. count ≡ count_of template.now n) }
     ensures prints { Runs result (printed_length template.now n) (O.bytes out.old) (O.bytes out.new) (O.faults out.old) (O.faults out.new) }
 {
@@ -58,7 +57,7 @@ pub fn print_run<O: Sink>(
     settings: &Settings,
     template: &Template,
 ) -> Result<bool, RunFault>
-    requires { max settings.now.imax 1 * length template.now.atoms ≤ most_atoms }
+    requires { places_in settings.now template.now ≤ most_places }
     ensures found { IfOk result (λ found. found ≡ list_any (λ n. nat_lt 0 (count_of template.now n)) (lengths_of settings.now (count_of template.now))) }
     ensures prints { Runs result (printed_run settings.now template.now) (O.bytes out.old) (O.bytes out.new) (O.faults out.old) (O.faults out.new) }
 {

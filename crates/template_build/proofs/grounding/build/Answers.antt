@@ -1,13 +1,8 @@
-use Rattle.std.proofs.Common.{◌∙◌, ◌++◌, List, ℕ, IsTrue, length, sym, subst}
+use Rattle.std.proofs.Common.{◌∙◌, ◌++◌, length, sym, subst}
 use Rattle.tel_rule.specs.Ground.{Ground, IsGround}
-use Rattle.tel_rule.specs.Rising.{names_rise}
 use Rattle.template_build.specs.Grounding.{ground_all}
-use Rattle.template_build.proofs.Grounded.{is_ground, is_template, names-rise}
+use Rattle.template_build.proofs.Grounded.{is_ground, is_template}
 use Rattle.template_build.proofs.grounding.build.Goals as goal
-
-pub symbols_of-requires-clause-rise : goal.symbols_of-requires-clause-rise
-symbols_of-requires-clause-rise c =
-    subst (λ (names : List (List ℕ)). IsTrue (names_rise names)) (sym c.requires.named) (names-rise c.args.statements.now)
 
 pub invariant_of-result : goal.invariant_of-result
 invariant_of-result c =
