@@ -1,0 +1,3 @@
+pub mod Engines
+pub mod Ends
+pub mod Lists
