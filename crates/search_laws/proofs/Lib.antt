@@ -19,3 +19,4 @@ pub mod NoGaps
 pub mod AllValues
 pub mod TraceOrder
 pub mod Counting
+pub mod Spoken

@@ -16,10 +16,10 @@ use Rattle.completion.specs.Completions.{IsHead}
 use Rattle.stable_models.specs.Values.{is_plain}
 use Rattle.stable_models.proofs.SettledModules.{atom_at, node_of_state}
 use Rattle.stable_models.proofs.PlainModules.{body_at_state, is_open}
+use Rattle.search_laws.proofs.Spoken.{module_says}
 use Rattle.template_lengths.proofs.Ranked.{templates_ranked}
 use Rattle.template_lengths.proofs.Templates.{templates_modules}
 use Rattle.cdcl_search.specs.Searches.{greatest, greatest_in, vars_for}
-use Rattle.tel_engine.proofs.Spoken.{module_says}
 
 -- ---- the variables of a module are of the states up to the next one
 

@@ -1,4 +1,3 @@
-pub mod Spoken
 pub mod Fits
 pub mod Printable
 pub mod Left
