@@ -1,3 +1,3 @@
-pub mod Printable
 pub mod Verdicts
 pub mod Runs
+pub mod Capped

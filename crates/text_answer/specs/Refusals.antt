@@ -27,8 +27,8 @@ DeliversCause (causes.Arrow place) result old new = Delivers result 65 (cause_li
 DeliversCause (causes.Prime place) result old new = Delivers result 65 (cause_line (causes.Prime place)) old new
 DeliversCause (causes.Const place name) result old new = Delivers result 65 (cause_line (causes.Const place name)) old new
 
--- what a fault says of a program: the first one that isn't plain stands here; or all are plain, and have too
--- many names
+-- what a fault says of a program: the first statement that isn't plain stands here; or all are plain, and have too many
+-- places
 abbrev pub IsPlainFault : Settings → Program → PlainFault → Type 0
 IsPlainFault settings program (plain.Unbuilt place) = first_unbuilt program.statements ≡ Some place
 IsPlainFault settings program plain.Large = (first_unbuilt program.statements ≡ None) × (most_places < places_of settings program)

@@ -36,11 +36,15 @@ pub data Verdict : Type 0 where
 
 -- the most places that all states of the greatest length may have together
 abbrev pub most_places : ℕ
-most_places = 12
+most_places = 4194304
 
--- how many places a program has in all states of the greatest length, or in one state where no length is run: one for each atom
+-- how many places a state of a program has: one for each atom, each node and each instance, and one for whether it is the last
+abbrev pub width_of : Ground → ℕ
+width_of program = length program.atoms + length program.nodes + length program.instances + 1
+
+-- how many places all states of the greatest length have, or one state where no length is run
 abbrev pub places_in : Settings → Ground → ℕ
-places_in settings program = max settings.imax 1 * length program.atoms
+places_in settings program = max settings.imax 1 * width_of program
 
 abbrev pub places_of : Settings → Program → ℕ
 places_of settings program = places_in settings (template_of program.statements)
@@ -69,8 +73,8 @@ pub record SayUnbuilt (texts : List (List ℕ)) (place : Place) : Type 0 where
   pub checked : SayChecked texts program
   pub first : first_unbuilt program.statements ≡ Some place
 
--- The size is looked at first, then the grammar, then the causes of statements, then which statements are plain, and then the number of different names
--- at the greatest length.
+-- The size is looked at first, then the grammar, then the causes of statements, then which statements are plain, and then the places at the
+-- greatest length.
 abbrev pub IsVerdict : Settings → List (List ℕ) → Verdict → Type 0
 IsVerdict settings texts (Accepted program) = (total_bytes texts ≤ largest_text) × SayPlain texts program × (places_of settings program ≤ most_places)
 IsVerdict settings texts (Refused fault) = (total_bytes texts ≤ largest_text) × IsFirstFault texts fault

@@ -1,5 +1,5 @@
 //! The answer to texts: their verdict, and what is printed for it.
-ghost use Rattle.std.specs.Prelude.{◌≡◌, ℕ, ◌<◌, ◌≤◌, ◌*◌, ◌^◌, ◌↔◌, List, Option, length, max, IsTrue, IfOk, IfErr, OnOk, Some, None, if◌then◌else◌};
+ghost use Rattle.std.specs.Prelude.{◌≡◌, ℕ, ◌<◌, ◌≤◌, ◌^◌, ◌↔◌, List, Option, length, IsTrue, IfOk, IfErr, OnOk, Some, None, if◌then◌else◌};
 ghost use Rattle.tel_base.specs.declared.places.Place.{Place};
 ghost use Rattle.tel_settings.specs.Run.{run_status};
 ghost use Rattle.part_syntax.specs.Programs.{total_bytes};
@@ -20,15 +20,15 @@ use tel_rule::{Program, Template};
 use tel_settings::Settings;
 use template_build::{first_unbuilt, template};
 
-/// The most atoms that all states of the greatest length may have together.
-const MOST_PLACES: u64 = 12;
+/// The most places that all states of the greatest length may have together.
+const MOST_PLACES: u64 = 4194304;
 
 /// Why a program that is read can't be run.
 #[derive(Clone, Copy, Debug, PartialEq, Eq)]
 pub enum PlainFault {
     /// The statement with its first token here isn't plain.
     Unbuilt(Place),
-    /// It has too many different names for the greatest length.
+    /// Its states have too many places at the greatest length.
     Large,
     /// There was no memory for it.
     Memory,
@@ -50,10 +50,10 @@ fn answer_template<O: Sink>(
     alloc: Global,
     out: &mut O,
     settings: &Settings,
-    template: &Template,
+    template: Template,
 ) -> Status
-    requires { places_in settings.now template.now ≤ most_places }
-    ensures delivers { Delivers (code_of result) (run_status settings.now (count_of template.now)) (printed_run settings.now template.now) (O.bytes out.old) (O.bytes out.new) }
+    requires { places_in settings.now template ≤ most_places }
+    ensures delivers { Delivers (code_of result) (run_status settings.now (count_of template)) (printed_run settings.now template) (O.bytes out.old) (O.bytes out.new) }
     ensures faults { TellsFaults (code_of result) (O.faults out.old) (O.faults out.new) }
 {
     match print_run(alloc, out, settings, template) {
@@ -63,15 +63,18 @@ fn answer_template<O: Sink>(
     }
 }
 
-/// Whether a program has too many places at the greatest length.
+/// Whether the states of a program have too many places at the greatest length.
 fn is_too_large(settings: &Settings, template: &Template) -> bool
     ensures { IsTrue result ↔ (most_places < places_in settings.now template.now) }
 {
-    let places = template.atoms.len() as u64;
-    MOST_PLACES < u64::from(settings.imax.max(1)).saturating_mul(places)
+    let width = (template.atoms.len() as u64)
+        .saturating_add(template.nodes.len() as u64)
+        .saturating_add(template.instances.len() as u64)
+        .saturating_add(1);
+    MOST_PLACES < u64::from(settings.imax.max(1)).saturating_mul(width)
 }
 
-/// The template of a program whose statements are plain, and whose names are few.
+/// The template of a program whose statements are plain, where its states haven't too many places.
 fn build(alloc: Global, settings: &Settings, program: &Program) -> Result<Template, PlainFault>
     requires { length program.now.statements < 2 ^ 32 }
     ensures ok { IfOk result (λ template. template ≡ template_of program.now.statements) }
@@ -94,7 +97,7 @@ fn build(alloc: Global, settings: &Settings, program: &Program) -> Result<Templa
     Ok(template)
 }
 
-/// Answers a program without a cause, which may have a statement that isn't plain, or too many names.
+/// Answers a program without a cause, which may have a statement that isn't plain, or too many places.
 fn answer_program<O: Sink>(
     alloc: Global,
     out: &mut O,
@@ -111,7 +114,7 @@ fn answer_program<O: Sink>(
     ensures faults { TellsFaults (code_of result) (O.faults out.old) (O.faults out.new) }
 {
     match build(alloc, settings, program) {
-        Ok(template) => answer_template(alloc, out, settings, &template),
+        Ok(template) => answer_template(alloc, out, settings, template),
         Err(PlainFault::Unbuilt(place)) => refuse_at(out, b"Unbuilt", place),
         Err(PlainFault::Large) => refuse_large(out),
         Err(PlainFault::Memory) => Status::Memory,
