@@ -48,13 +48,13 @@ fn greatest_of(lits: &[Lit]) -> u32
     most
 }
 
-/// How many variables a search needs for a module and its clauses.
-pub(crate) fn vars_for(step: &StepModule, clauses: &[Clause]) -> u32
-    requires { vars_for step.now clauses.now < 2 ^ 32 }
+/// How many variables a search needs for a module and its clauses: one more than the greatest that is an atom of the module or
+/// its end, or stands in a clause. It is at most 2^32.
+pub fn vars_for(step: &StepModule, clauses: &[Clause]) -> u64
     ensures { result ≡ vars_for step.now clauses.now }
 {
     let most = greatest(step.atoms.as_slice()).max(greatest_in(clauses));
-    step.end.max(most) + 1
+    u64::from(step.end.max(most)) + 1
 }
 
 /// The sum of two counts. One that is no number of the machine is want of memory.

@@ -8,6 +8,7 @@ mod loops;
 mod search;
 mod steps;
 
+pub use adding::vars_for;
 pub use loops::LoopSet;
 pub use search::Search;
 pub use steps::Step;

@@ -113,7 +113,7 @@ impl<F: Founded + Drop> Search<F> {
         ensures begun { self.new.begun ≡ self.old.begun }
         ensures err { OnErr result (IsAsBefore self.old self.new) }
     {
-        let vars = vars_for(step, clauses);
+        let vars = vars_for(step, clauses) as u32;
         self.lengths.reserve(clauses.len())?;
         make_room(
             &mut self.store,

@@ -1,0 +1,2 @@
+pub mod StillBegun
+pub mod Fits
