@@ -12,3 +12,4 @@ mod variables;
 pub use laws::{one_first_unbound, order_of_settings, setting_equations};
 pub use tables::Tables;
 pub use unbound::first_unbound;
+pub use variables::{collect_variables, whole_variable};

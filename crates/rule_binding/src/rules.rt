@@ -6,7 +6,7 @@ ghost use Rattle.rule_binding.specs.Heads.{tells};
 ghost use Rattle.rule_binding.specs.Rules.{args_rules, side_rules, compare_rules, item_rules, body_rules};
 
 use crate::tables::Tables;
-use crate::variables::{alone, collect};
+use crate::variables::{collect_variables, whole_variable};
 use sqlite_items::Items;
 use std::alloc::Global;
 use tel_base::Memory;
@@ -25,7 +25,7 @@ fn add_args(alloc: Global, args: &[Expr], rules: &mut Items<BindingRule>) -> Res
     ensures { OnOk result (rules.new ≡ rules.old ++ args_rules args.now) }
 {
     for arg in args {
-        if let Some(var) = alone(arg) {
+        if let Some(var) = whole_variable(arg) {
             rules.push(BindingRule {
                 var,
                 needs: Items::new(alloc),
@@ -44,9 +44,9 @@ fn add_side(
 ) -> Result<(), Memory>
     ensures { OnOk result (rules.new ≡ rules.old ++ side_rules side.now other.now) }
 {
-    if let Some(var) = alone(side) {
+    if let Some(var) = whole_variable(side) {
         let mut needs = Items::new(alloc);
-        collect(other, &mut needs)?;
+        collect_variables(other, &mut needs)?;
         rules.push(BindingRule { var, needs })?;
     }
     Ok(())

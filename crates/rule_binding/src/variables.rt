@@ -8,7 +8,7 @@ use tel_base::Memory;
 use tel_term::{Expr, ProductOp, SumOp};
 
 /// The variable that an expression is as a whole.
-pub fn alone(expr: &Expr) -> Option<u32>
+pub fn whole_variable(expr: &Expr) -> Option<u32>
     ensures { result ≡ whole_var expr.now }
 {
     match expr {
@@ -22,7 +22,7 @@ pub fn alone(expr: &Expr) -> Option<u32>
 
 /// Adds the variables of an expression, from left to right.
 #[cycle(collecting)]
-pub fn collect(expr: &Expr, vars: &mut Items<u32>) -> Result<(), Memory>
+pub fn collect_variables(expr: &Expr, vars: &mut Items<u32>) -> Result<(), Memory>
     ensures { OnOk result (vars.new ≡ vars.old ++ vars_of expr.now) }
 {
     match expr {
@@ -31,13 +31,13 @@ pub fn collect(expr: &Expr, vars: &mut Items<u32>) -> Result<(), Memory>
             vars.push(*v)?;
             Ok(())
         }
-        Expr::Minus(inner) => collect(inner.get(), vars),
+        Expr::Minus(inner) => collect_variables(inner.get(), vars),
         Expr::Sum(first, more) => {
-            collect(first.get(), vars)?;
+            collect_variables(first.get(), vars)?;
             collect_sum(more.as_slice(), vars)
         }
         Expr::Product(first, more) => {
-            collect(first.get(), vars)?;
+            collect_variables(first.get(), vars)?;
             collect_product(more.as_slice(), vars)
         }
     }
@@ -49,7 +49,7 @@ fn collect_sum(more: &[(SumOp, Expr)], vars: &mut Items<u32>) -> Result<(), Memo
     ensures { OnOk result (vars.new ≡ vars.old ++ operand_vars (with_vars more.now)) }
 {
     for operand in more {
-        collect(&operand.1, vars)?;
+        collect_variables(&operand.1, vars)?;
     }
     Ok(())
 }
@@ -60,7 +60,7 @@ fn collect_product(more: &[(ProductOp, Expr)], vars: &mut Items<u32>) -> Result<
     ensures { OnOk result (vars.new ≡ vars.old ++ operand_vars (with_vars more.now)) }
 {
     for operand in more {
-        collect(&operand.1, vars)?;
+        collect_variables(&operand.1, vars)?;
     }
     Ok(())
 }

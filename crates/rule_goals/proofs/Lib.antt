@@ -1,0 +1,4 @@
+pub mod Pushed
+pub mod Meant
+pub mod Fit
+pub mod Stuck
