@@ -1,0 +1,24 @@
+-- Theories over ground atoms, and the templates that mean them.
+use Rattle.std.specs.Prelude.{◌≡◌, ℕ, List, map}
+use Rattle.tel_rule.specs.Ground.{Ground}
+use Rattle.tel_semantics.specs.Theory.{DemandOver, theory}
+use Rattle.theory_lists.specs.Atoms.{TermAtom, atom_over, atom_at}
+use Rattle.theory_lists.specs.Renaming.{renamed_demand}
+
+-- the atoms of a program in their order, and what is demanded of them
+pub record ProgramTheory : Type 0 where
+  pub atoms : List TermAtom
+  pub demands : List (DemandOver TermAtom)
+
+-- the atoms of a template over its symbols
+abbrev pub atoms_over : Ground → List TermAtom
+atoms_over template = map (atom_over template.symbols) template.atoms
+
+-- the atom with a number
+abbrev pub numbered_atom : Ground → ℕ → TermAtom
+numbered_atom template number = atom_at (atoms_over template) number
+
+-- a template means a theory: its atoms stand for those of the theory, in the same order, and its instances and pairs demand the same of them
+pub record Means (template : Ground) (said : ProgramTheory) : Type 0 where
+  pub atoms : said.atoms ≡ atoms_over template
+  pub demands : said.demands ≡ map (renamed_demand (numbered_atom template)) (theory template)

@@ -1,0 +1,21 @@
+//! Laws of the definitions: functions that do nothing, whose contracts are proved facts.
+
+ghost use Rattle.theory_lists.specs.Laws.{AtomsAreOrdered, SameAtomsAreOne, AtomsOfTemplatesRise, ListsAreOfTheories, PrintsAreOfTheories};
+
+/// The order of atoms is total, atoms are the same exactly where they are one, and the atoms of a template
+/// strictly rise.
+pub fn order_of_atoms()
+    ensures total { AtomsAreOrdered }
+    ensures same { SameAtomsAreOne }
+    ensures rise { AtomsOfTemplatesRise }
+{}
+
+/// A template that means a theory lists its temporal equilibrium models, of each length, in the same order.
+pub fn lists_of_theories()
+    ensures { ListsAreOfTheories }
+{}
+
+/// A template that means a theory and shows all atoms prints traces as the theory does.
+pub fn prints_of_theories()
+    ensures { PrintsAreOfTheories }
+{}
