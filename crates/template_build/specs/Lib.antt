@@ -1,4 +1,3 @@
-pub mod FormulaValues
 pub mod Plain
 pub mod Naming
 pub mod Grounding

@@ -1,51 +1,26 @@
 -- The names of a program, and the numbers of its atoms.
-use Rattle.std.specs.Prelude.{ℕ, ◌-◌, ◌<◌, ◌^◌, List, [], ◌∷◌, ◌++◌, length, map, unwrap_or, IsTrue}
+use Rattle.std.specs.Prelude.{ℕ, ◌-◌, ◌<◌, ◌^◌, List, [], ◌∷◌, length, map, unwrap_or, IsTrue}
 use Rattle.std.specs.Borrow.{Bor}
 use Rattle.std.specs.List.{flat_map, position}
 use Rattle.std.specs.Str.{bytes_eq}
 use Rattle.tel_rule.specs.declared.formulas.Atom.{Atom}
-use Rattle.tel_rule.specs.declared.formulas.Formula.{Formula}
-use Rattle.tel_rule.specs.declared.statements.LitItem.{LitItem}
-use Rattle.tel_rule.specs.declared.statements.LitItem.TheVariants as items
-use Rattle.tel_rule.specs.declared.statements.Literal.{Literal}
-use Rattle.tel_rule.specs.declared.statements.Head.{Head}
-use Rattle.tel_rule.specs.declared.statements.Head.TheVariants as heads
 use Rattle.tel_rule.specs.declared.statements.Kind.{Kind}
 use Rattle.tel_rule.specs.declared.statements.Kind.TheVariants as kinds
 use Rattle.tel_rule.specs.declared.statements.Statement.{Statement}
 use Rattle.tel_rule.specs.Rising.{names_rise, rising_set}
-use Rattle.template_build.specs.FormulaValues.{formula_value}
+use Rattle.instance_build.specs.RuleAtoms.{rule_atoms}
 
 -- the names that references see
 abbrev pub seen : List (Bor (List ℕ)) → List (List ℕ)
 seen names = map (λ name. name.now) names
 
--- the name of an atom
-abbrev pub atom_names : Atom → List (List ℕ)
-atom_names atom = atom.name ∷ []
+-- the names of these atoms
+abbrev pub names_in : List Atom → List (List ℕ)
+names_in atoms = map (λ atom. atom.name) atoms
 
-abbrev pub joined : List (List (List ℕ)) → List (List ℕ)
-joined lists = flat_map (λ list. list) lists
-
--- the names that stand in a formula, from left to right
-abbrev pub formula_names : Formula → List (List ℕ)
-formula_names formula = formula_value atom_names (λ op below. joined below) formula
-
-abbrev pub item_names : LitItem → List (List ℕ)
-item_names (items.Atom atom) = atom_names atom
-item_names (items.Tel formula) = formula_names formula
-item_names (items.Compare relation left right) = []
-
-abbrev pub literal_names : Literal → List (List ℕ)
-literal_names literal = item_names literal.item
-
-abbrev pub head_names : Head → List (List ℕ)
-head_names (heads.Normal atom) = atom_names atom
-head_names (heads.Choice atom) = atom_names atom
-head_names heads.None = []
-
+-- the names that stand in what a statement says, from left to right
 abbrev pub kind_names : Kind → List (List ℕ)
-kind_names (kinds.Rule head body) = head_names head ++ flat_map literal_names body
+kind_names (kinds.Rule head body) = names_in (rule_atoms head body)
 kind_names (kinds.Facts fact) = fact.name ∷ []
 kind_names (kinds.Const name value) = []
 kind_names (kinds.Show shown) = []
@@ -64,6 +39,10 @@ atoms_of statements = rising_set (names_of statements)
 -- the number of the atom with this name, its place among them
 abbrev pub number_of : List (List ℕ) → List ℕ → ℕ
 number_of names name = unwrap_or (position (bytes_eq name) names) 0
+
+-- and of an atom, that of its name
+abbrev pub number_in : List (List ℕ) → Atom → ℕ
+number_in names atom = number_of names atom.name
 
 -- names that their places number: they rise, and numbers of 32 bits suffice
 pub record AreNumbered (names : List (List ℕ)) : Type 0 where

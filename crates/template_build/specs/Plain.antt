@@ -14,8 +14,8 @@ use Rattle.tel_rule.specs.declared.statements.Fact.{Fact}
 use Rattle.tel_rule.specs.declared.statements.Kind.{Kind}
 use Rattle.tel_rule.specs.declared.statements.Kind.TheVariants as kinds
 use Rattle.tel_rule.specs.declared.statements.Statement.{Statement}
-use Rattle.tel_rule.specs.Nodes.{guard}
-use Rattle.template_build.specs.FormulaValues.{formula_value}
+use Rattle.instance_build.specs.FormulaValues.{formula_value}
+use Rattle.instance_build.specs.Guarded.{all_hold, is_guarded_body}
 
 -- an atom is a name alone: it has no `-` before it and no arguments
 abbrev pub is_bare : Atom → Bool
@@ -33,16 +33,9 @@ is_head_atom atom = is_bare atom && ((atom.before == 0) && nat_le atom.after 1)
 abbrev pub is_formula_atom : Atom → Bool
 is_formula_atom atom = is_bare atom && ((atom.before == 0) && (atom.after == 0))
 
-abbrev pub all_hold : List Bool → Bool
-all_hold tests = list_all (λ b. b) tests
-
 -- all atoms of a formula are such
 abbrev pub is_plain_formula : Formula → Bool
 is_plain_formula formula = formula_value is_formula_atom (λ op below. all_hold below) formula
-
--- each way from a formula down to an arrow passes a `~`
-abbrev pub is_guarded_formula : Formula → Bool
-is_guarded_formula formula = formula_value (λ atom. true) guard formula
 
 -- a literal speaks of a plain atom or formula, and of no comparison
 abbrev pub is_plain_item : LitItem → Bool
@@ -58,21 +51,6 @@ abbrev pub is_plain_head : Head → Bool
 is_plain_head (heads.Normal atom) = is_head_atom atom
 is_plain_head (heads.Choice atom) = is_head_atom atom
 is_plain_head heads.None = true
-
--- a formula has no arrow but below a `~`
-abbrev pub is_guarded_item : LitItem → Bool
-is_guarded_item (items.Atom atom) = true
-is_guarded_item (items.Tel formula) = is_guarded_formula formula
-is_guarded_item (items.Compare relation left right) = true
-
--- of a literal with `not` nothing is asked
-abbrev pub is_guarded_literal : Literal → Bool
-is_guarded_literal literal = if literal.nots == 0 then is_guarded_item literal.item else true
-
--- nor of the body of a constraint
-abbrev pub is_guarded_body : Head → List Literal → Bool
-is_guarded_body heads.None body = true
-is_guarded_body head body = list_all is_guarded_literal body
 
 -- one tuple, which has no argument
 abbrev pub is_one_empty : List (List Arg) → Bool

@@ -2,11 +2,13 @@
 ghost use Rattle.std.specs.Prelude.{◌≡◌, ℕ, ◌-◌, ◌<◌, ◌^◌, List, [], ◌∷◌, ◌++◌, length, map, IfOk, OnOk, IsTrue};
 ghost use Rattle.std.specs.List.{flat_map};
 ghost use Rattle.tel_rule.specs.Rising.{names_rise};
-ghost use Rattle.template_build.specs.Naming.{seen, joined, formula_names, literal_names, head_names, kind_names, names_of, atoms_of, number_of, AreNumbered};
+ghost use Rattle.instance_build.specs.RuleAtoms.{joined_atoms, formula_atoms, literal_atoms, head_atoms, rule_atoms};
+ghost use Rattle.template_build.specs.Naming.{seen, names_in, kind_names, names_of, atoms_of, number_of, number_in, AreNumbered};
 
+use instance_build::AtomNumbers;
 use std::alloc::Global;
 use tel_base::{Memory, Text};
-use tel_rule::{Formula, Head, Kind, LitItem, Literal, Statement};
+use tel_rule::{Atom, Formula, Head, Kind, LitItem, Literal, Statement};
 
 /// Puts a name behind these names.
 fn add_name<'a>(names: &mut Vec<&'a [u8]>, name: &'a [u8]) -> Result<(), Memory>
@@ -19,7 +21,7 @@ fn add_name<'a>(names: &mut Vec<&'a [u8]>, name: &'a [u8]) -> Result<(), Memory>
 /// Puts the names of a formula behind these names.
 #[cycle(names_of_formulas)]
 fn add_formula<'a>(names: &mut Vec<&'a [u8]>, formula: &'a Formula) -> Result<(), Memory>
-    ensures { OnOk result (seen names.new.items ≡ seen names.old.items ++ formula_names formula.now) }
+    ensures { OnOk result (seen names.new.items ≡ seen names.old.items ++ names_in (formula_atoms formula.now)) }
 {
     match formula {
         Formula::Const(_) => Ok(()),
@@ -37,7 +39,7 @@ fn add_formula<'a>(names: &mut Vec<&'a [u8]>, formula: &'a Formula) -> Result<()
 /// Puts the names of these formulas behind these names.
 #[cycle(names_of_formulas)]
 fn add_formulas<'a>(names: &mut Vec<&'a [u8]>, formulas: &'a [Formula]) -> Result<(), Memory>
-    ensures { OnOk result (seen names.new.items ≡ seen names.old.items ++ joined (map formula_names formulas.now)) }
+    ensures { OnOk result (seen names.new.items ≡ seen names.old.items ++ names_in (joined_atoms (map formula_atoms formulas.now))) }
 {
     for formula in formulas {
         add_formula(names, formula)?;
@@ -47,7 +49,7 @@ fn add_formulas<'a>(names: &mut Vec<&'a [u8]>, formulas: &'a [Formula]) -> Resul
 
 /// Puts the names of a literal behind these names.
 fn add_literal<'a>(names: &mut Vec<&'a [u8]>, literal: &'a Literal) -> Result<(), Memory>
-    ensures { OnOk result (seen names.new.items ≡ seen names.old.items ++ literal_names literal.now) }
+    ensures { OnOk result (seen names.new.items ≡ seen names.old.items ++ names_in (literal_atoms literal.now)) }
 {
     match &literal.item {
         LitItem::Atom(atom) => add_name(names, atom.name.as_slice()),
@@ -58,7 +60,7 @@ fn add_literal<'a>(names: &mut Vec<&'a [u8]>, literal: &'a Literal) -> Result<()
 
 /// Puts the names of a body behind these names.
 fn add_body<'a>(names: &mut Vec<&'a [u8]>, body: &'a [Literal]) -> Result<(), Memory>
-    ensures { OnOk result (seen names.new.items ≡ seen names.old.items ++ flat_map literal_names body.now) }
+    ensures { OnOk result (seen names.new.items ≡ seen names.old.items ++ names_in (flat_map literal_atoms body.now)) }
 {
     for literal in body {
         add_literal(names, literal)?;
@@ -68,7 +70,7 @@ fn add_body<'a>(names: &mut Vec<&'a [u8]>, body: &'a [Literal]) -> Result<(), Me
 
 /// Puts the name of a head behind these names.
 fn add_head<'a>(names: &mut Vec<&'a [u8]>, head: &'a Head) -> Result<(), Memory>
-    ensures { OnOk result (seen names.new.items ≡ seen names.old.items ++ head_names head.now) }
+    ensures { OnOk result (seen names.new.items ≡ seen names.old.items ++ names_in (head_atoms head.now)) }
 {
     match head {
         Head::Normal(atom) => add_name(names, atom.name.as_slice()),
@@ -83,7 +85,7 @@ fn add_rule<'a>(
     head: &'a Head,
     body: &'a [Literal],
 ) -> Result<(), Memory>
-    ensures { OnOk result (seen names.new.items ≡ seen names.old.items ++ (head_names head.now ++ flat_map literal_names body.now)) }
+    ensures { OnOk result (seen names.new.items ≡ seen names.old.items ++ names_in (rule_atoms head.now body.now)) }
 {
     add_head(names, head)?;
     add_body(names, body)?;
@@ -146,5 +148,20 @@ pub fn number_of(names: &[Text], name: &[u8]) -> u32
     match names.binary_search_by(|other| other.as_slice().cmp(name)) {
         Ok(number) => number as u32,
         Err(_) => 0,
+    }
+}
+
+/// Names whose places number the atoms with these names.
+#[derive(Drop)]
+pub struct Names<'a> {
+    pub names: &'a [Text],
+    pub ghost numbered: { AreNumbered names.now },
+}
+
+impl AtomNumbers for Names<'_> {
+    ghost number = { λ numbers. number_in numbers.names.now };
+
+    fn number(&self, atom: &Atom) -> Result<u32, Memory> {
+        Ok(number_of(self.names, atom.name.as_slice()))
     }
 }

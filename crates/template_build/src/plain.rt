@@ -1,14 +1,13 @@
 //! Which statements are plain: rules and facts over names that stand by themselves.
 ghost use Rattle.std.specs.Prelude.{◌≡◌, ◌&&◌, map, None, true};
 ghost use Rattle.std.specs.List.{list_all};
-ghost use Rattle.tel_rule.specs.Nodes.{is_arrow};
-ghost use Rattle.template_build.specs.Plain.{all_hold, is_bare, is_body_atom, is_head_atom, is_formula_atom, is_plain_formula, is_guarded_formula, is_plain_item, is_plain_literal, is_plain_head, is_guarded_item, is_guarded_literal, is_guarded_body, is_one_empty, is_plain_fact, is_plain_kind, first_unbuilt};
+ghost use Rattle.instance_build.specs.Guarded.{all_hold};
+ghost use Rattle.template_build.specs.Plain.{is_bare, is_body_atom, is_head_atom, is_formula_atom, is_plain_formula, is_plain_item, is_plain_literal, is_plain_head, is_one_empty, is_plain_fact, is_plain_kind, first_unbuilt};
 
+use instance_build::is_guarded_body;
 use sqlite_items::Items;
 use tel_base::Place;
-use tel_rule::{
-    Arg, Atom, BinaryOp, Fact, Formula, Head, Kind, LitItem, Literal, Statement, UnaryOp,
-};
+use tel_rule::{Arg, Atom, Fact, Formula, Head, Kind, LitItem, Literal, Statement};
 
 /// Whether an atom is a name alone.
 fn is_bare(atom: &Atom) -> bool
@@ -67,46 +66,6 @@ fn are_plain_formulas(formulas: &[Formula]) -> bool
     true
 }
 
-/// Whether an operator is an arrow.
-fn is_arrow(op: BinaryOp) -> bool
-    ensures { result ≡ is_arrow op }
-{
-    match op {
-        BinaryOp::Implies | BinaryOp::ImpliedBy | BinaryOp::Same => true,
-        BinaryOp::Since | BinaryOp::Trigger | BinaryOp::Until | BinaryOp::Release => false,
-    }
-}
-
-/// Whether each way from a formula down to an arrow passes a `~`.
-#[cycle(guarded_formulas)]
-fn is_guarded_formula(formula: &Formula) -> bool
-    ensures { result ≡ is_guarded_formula formula.now }
-{
-    match formula {
-        Formula::Const(_) => true,
-        Formula::Atom(_) => true,
-        Formula::Unary(UnaryOp::Not, _) => true,
-        Formula::Unary(_, operand) => is_guarded_formula(operand.get()),
-        Formula::Binary(op, left, right) => {
-            !is_arrow(*op) && is_guarded_formula(left.get()) && is_guarded_formula(right.get())
-        }
-        Formula::Many(_, operands) => are_guarded_formulas(operands.as_slice()),
-    }
-}
-
-/// Whether this holds of all of these formulas.
-#[cycle(guarded_formulas)]
-fn are_guarded_formulas(formulas: &[Formula]) -> bool
-    ensures { result ≡ all_hold (map is_guarded_formula formulas.now) }
-{
-    for formula in formulas {
-        if !is_guarded_formula(formula) {
-            return false;
-        }
-    }
-    true
-}
-
 /// Whether a literal speaks of a plain atom or a plain formula.
 fn is_plain_item(item: &LitItem) -> bool
     ensures { result ≡ is_plain_item item.now }
@@ -125,38 +84,11 @@ fn is_plain_literal(literal: &Literal) -> bool
     literal.nots <= 2 && is_plain_item(&literal.item)
 }
 
-/// Whether each way from what a literal without `not` speaks of down to an arrow passes a `~`.
-fn is_guarded_literal(literal: &Literal) -> bool
-    ensures { result ≡ is_guarded_literal literal.now }
-{
-    match &literal.item {
-        LitItem::Tel(formula) => literal.nots != 0 || is_guarded_formula(formula),
-        LitItem::Atom(_) | LitItem::Compare(..) => true,
-    }
-}
-
 /// Whether all literals of a body are plain.
 fn is_plain_body(body: &[Literal]) -> bool
     ensures { result ≡ list_all is_plain_literal body.now }
 {
     body.iter().all(is_plain_literal)
-}
-
-/// Whether this holds of each literal of a body.
-fn are_guarded(body: &[Literal]) -> bool
-    ensures { result ≡ list_all is_guarded_literal body.now }
-{
-    body.iter().all(is_guarded_literal)
-}
-
-/// Whether this holds of the body below a head; of that of a constraint it isn't asked.
-fn is_guarded_body(head: &Head, body: &[Literal]) -> bool
-    ensures { result ≡ is_guarded_body head.now body.now }
-{
-    match head {
-        Head::Normal(_) | Head::Choice(_) => are_guarded(body),
-        Head::None => true,
-    }
 }
 
 /// Whether a head is plain.

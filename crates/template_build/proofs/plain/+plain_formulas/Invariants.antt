@@ -1,5 +1,6 @@
 use Rattle.std.proofs.Common.{◌≡◌, map, drop}
-use Rattle.template_build.specs.Plain.{all_hold, is_plain_formula}
+use Rattle.instance_build.specs.Guarded.{all_hold}
+use Rattle.template_build.specs.Plain.{is_plain_formula}
 use Rattle.template_build.proofs.plain.+plain_formulas.Given as goal
 
 abbrev pub invariant-are_plain_formulas-loop-formula : goal.invariant-are_plain_formulas-loop-formula
