@@ -1,0 +1,11 @@
+pub mod RisingLists
+pub mod OneTheory
+pub mod Renamed
+pub mod Rows
+pub mod Places
+pub mod Pairs
+pub mod Meant
+pub mod Counted
+pub mod SomeTheory
+pub mod SomeInstances
+pub mod Examples

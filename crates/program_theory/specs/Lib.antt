@@ -1,0 +1,4 @@
+pub mod Instances
+pub mod Theory
+pub mod Templates
+pub mod Laws
