@@ -1,3 +1,3 @@
 pub mod Found
-pub mod Keeping
 pub mod Planning
+pub mod RisingOnce

@@ -1,17 +1,17 @@
 //! The search for the live bindings of a rule.
-ghost use Rattle.std.specs.Prelude.{◌≡◌, List, filter, replicate, reverse, pos, IfOk};
+ghost use Rattle.std.specs.Prelude.{◌≡◌, ◌-◌, ◌^◌, ◌<◌, ◌≤◌, List, length, replicate, pos, IfOk, IfErr};
 ghost use Rattle.tel_term.specs.declared.terms.Value.TheVariants as values;
 ghost use Rattle.tel_rule.specs.declared.statements.Statement.{Statement};
-ghost use Rattle.live_instances.specs.Instances.{makes_instance, AreLive};
+ghost use Rattle.live_instances.specs.Instances.{AreLive};
 ghost use Rattle.rule_plans.specs.Goals.{Rows};
 ghost use Rattle.plan_search.specs.Steps.{HaveTerms, RowsHaveTerms};
-ghost use Rattle.instance_check.specs.Valued.{BodyHasTerms};
-ghost use Rattle.binding_sort.specs.Sorting.{AreOfTerms};
 ghost use Rattle.live_bindings.specs.Planned.{IsPlanned};
+ghost use Rattle.live_bindings.specs.Limits.{AreMore, IfLarge};
 
+use crate::fault::LiveFault;
+use crate::instances::MakesInstance;
 use binding_sort::sort_bindings;
 use fact_table::Tables;
-use instance_check::makes_instance;
 use plan_search::{Step, search};
 use sqlite_items::Items;
 use std::alloc::Global;
@@ -27,30 +27,8 @@ fn zeros(alloc: Global, places: usize) -> Result<Items<Value>, Memory>
     Ok(Items::from_vec(env))
 }
 
-/// Those of these bindings that make an instance of a rule, the last one first.
-fn instances_among(
-    alloc: Global,
-    symbols: &Symbols,
-    head: &Head,
-    body: &[Literal],
-    found: Vec<Items<Value>>,
-) -> Result<Vec<Items<Value>>, Memory>
-    requires terms { BodyHasTerms symbols.now body.now }
-    requires found { AreOfTerms symbols.now found.items }
-    ensures { IfOk result (λ kept. reverse kept.items ≡ filter (makes_instance symbols.now head.now body.now) found.items) }
-{
-    let mut rest = found;
-    let mut kept = Vec::new(alloc);
-    'rest: while let Some(binding) = rest.pop() {
-        if makes_instance(symbols, head, body, binding.as_slice()) {
-            kept.push(binding)?;
-        }
-    }
-    Ok(kept)
-}
-
 /// The live bindings of a rule of so many variables, each once, in their order. The steps are a plan of it,
-/// with so many places.
+/// with so many places. `Large` says that there are more than `most`. No more are held than one above that.
 pub fn find_live_bindings(
     alloc: Global,
     tables: &Tables,
@@ -60,15 +38,22 @@ pub fn find_live_bindings(
     vars: usize,
     head: &Head,
     body: &[Literal],
-) -> Result<Vec<Items<Value>>, Memory>
+    most: usize,
+) -> Result<Vec<Items<Value>>, LiveFault>
     requires planned { (statements : List Statement) × (rows : Rows) × IsPlanned tables.now symbols.now steps.now places vars head.now body.now statements rows }
     requires terms { HaveTerms symbols.now steps.now }
     requires rows { RowsHaveTerms symbols.now tables.now }
-    ensures { IfOk result (λ found. (statements : List Statement) (rows : Rows) → IsPlanned tables.now symbols.now steps.now places vars head.now body.now statements rows → AreLive statements symbols.now vars head.now body.now found.items) }
+    requires most { most < 2 ^ 64 - 1 }
+    ensures live { IfOk result (λ found. (statements : List Statement) (rows : Rows) → IsPlanned tables.now symbols.now steps.now places vars head.now body.now statements rows → AreLive statements symbols.now vars head.now body.now found.items) }
+    ensures few { IfOk result (λ found. length found.items ≤ most) }
+    ensures large { IfErr result (λ fault. IfLarge fault ((statements : List Statement) (rows : Rows) → IsPlanned tables.now symbols.now steps.now places vars head.now body.now statements rows → AreMore statements symbols.now vars head.now body.now most)) }
 {
     let env = zeros(alloc, places)?;
-    let found = search(alloc, tables, symbols, steps, env, vars)?;
-    let mut live = instances_among(alloc, symbols, head, body, found)?;
+    let test = MakesInstance { vars, head, body };
+    let mut live = search(alloc, tables, symbols, steps, env, vars, &test, most + 1)?;
+    if live.len() > most {
+        return Err(LiveFault::Large);
+    }
     sort_bindings(symbols, &mut live)?;
     Ok(live)
 }

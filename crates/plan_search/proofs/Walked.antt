@@ -1,12 +1,14 @@
 -- What the stack still finds, turn by turn.
-use Rattle.std.proofs.Common.{◌≡◌, ℕ, suc, ◌+◌, ◌<◌, ◌≤◌, Bool, false, List, [], ◌∷◌, ◌++◌, map, length, take, drop, replicate, refl, sym, ap, ap₂, ◌∙◌, subst, arith, append_assoc}
+use Rattle.std.proofs.Common.{◌≡◌, ℕ, suc, ◌+◌, ◌<◌, ◌≤◌, Bool, true, false, List, [], ◌∷◌, ◌++◌, map, length, take, drop, replicate, refl, sym, ap, ap₂, ◌∙◌, subst, arith, append_assoc}
+use Rattle.std.specs.Prelude.{filter, if◌then◌else◌}
 use Rattle.std.specs.Option.{option_copied}
-use Rattle.std.proofs.lemmas.List.{append-nil}
+use Rattle.std.proofs.lemmas.List.{append-nil, length-append, map-append, take_all, take-map, take-append-le}
+use Rattle.std.proofs.lemmas.List.Elements.{filter-append}
 use Rattle.tel_term.specs.declared.terms.Value.{Value}
 use Rattle.join_plans.specs.Join.{Step, Row, Equal, Compare, answers, IsPlan}
 use Rattle.plan_search.specs.declared.searching.Frame.{Frame}
 use Rattle.plan_search.specs.Trying.{tries}
-use Rattle.plan_search.specs.Searching.{frame_finds, finds, all_find, marks_at, Rise, turns, frame_tries, all_turns, most_rows, IsEntered, AgreeOn, Turns}
+use Rattle.plan_search.specs.Searching.{frame_finds, finds, all_find, kept, marks_at, Rise, turns, frame_tries, all_turns, most_rows, IsEntered, AgreeOn, Turns}
 use Rattle.plan_search.proofs.Agreeing.{answers_agree, behind_agree}
 use Rattle.plan_search.proofs.Dropping.{drop_past}
 use Rattle.plan_search.proofs.Marks.{marks_more, marks_long, plan_from}
@@ -74,12 +76,25 @@ all_agree known plan level a b (f ∷ fs) is up agree =
 
 -- ---- the loop
 
-module _ (plan : List Step) (vars : ℕ) where
-  abbrev pub Whole : List Frame → List Value → List (List Value) → List (List Value) → Type 0
-  Whole stack env found all = found ++ map (take vars) (all_find plan env stack) ≡ all
+kept-append : (test : List Value → Bool) (vars : ℕ) (xs ys : List (List Value)) → kept test vars (xs ++ ys) ≡ kept test vars xs ++ kept test vars ys
+kept-append test vars xs ys = ap (map (take vars)) (filter-append test xs ys) ∙ map-append (take vars) (filter test xs) (filter test ys)
 
-  pub begun : (frame : Frame) (env : List Value) → IsEntered plan 0 env frame → Whole (frame ∷ []) env [] (map (take vars) (answers plan env))
-  begun frame env entered = ap (map (take vars)) entered.all
+-- at most one more is kept
+pub one_kept : (test : List Value → Bool) (vars most : ℕ) (env : List Value) (found new : List (List Value)) → length found < most → new ≡ found ++ kept test vars (env ∷ []) → length new ≤ most
+one_kept test vars most env found new less is =
+    let count = ap length is ∙ length-append found (kept test vars (env ∷ [])) in
+    elim (test env) as (λ t. length new ≡ length found + length (map (take vars) (if t then env ∷ [] else [])) → length new ≤ most) [
+      | true ↦ λ e. omega (arith, e, less)
+      | false ↦ λ e. omega (arith, e, less)
+    ]
+    count
+
+module _ (plan : List Step) (test : List Value → Bool) (vars : ℕ) where
+  abbrev pub Whole : List Frame → List Value → List (List Value) → List (List Value) → Type 0
+  Whole stack env found all = found ++ kept test vars (all_find plan env stack) ≡ all
+
+  pub begun : (frame : Frame) (env : List Value) → IsEntered plan 0 env frame → Whole (frame ∷ []) env [] (kept test vars (answers plan env))
+  begun frame env entered = ap (kept test vars) entered.all
 
   pub begun_rise : (frame : Frame) (env : List Value) → IsEntered plan 0 env frame → Rise 0 (length plan) (frame ∷ [])
   begun_rise frame env entered = (omega arith, omega (arith, entered.at), tt)
@@ -94,7 +109,7 @@ module _ (plan : List Step) (vars : ℕ) where
   pub turn_whole : (stack rest after : List Frame) (frame : Frame) (old new : List Value) (found all : List (List Value)) → IsPlan (replicate (length old) false) plan → stack ≡ rest ++ frame ∷ [] → Rise 0 (length plan) stack → Turns plan frame old new rest after
       → Whole stack old found all → Whole after new found all
   turn_whole stack rest after frame old new found all is popped rise turns whole =
-      ap (λ (l : List (List Value)). found ++ map (take vars) l)
+      ap (λ (l : List (List Value)). found ++ kept test vars l)
       (ap (all_find plan new) turns.is
       ∙ turned_same (replicate (length old) false) rest turns.pushed frame old new is (subst (Rise 0 (length plan)) popped rise) turns.turned.stays turns.turned.same
       ∙ ap (all_find plan old) (sym popped))
@@ -113,13 +128,14 @@ module _ (plan : List Step) (vars : ℕ) where
       let four = turns-append most plan rest turns.pushed in
       omega (arith, one, two, three, four, turns.turned.fewer)
 
-  pub end_whole : (stack rest : List Frame) (frame : Frame) (env : List Value) (found all new : List (List Value)) → length plan ≤ frame.level → stack ≡ rest ++ frame ∷ [] → new ≡ found ++ take vars env ∷ [] → Whole stack env found all → Whole rest env new all
+  pub end_whole : (stack rest : List Frame) (frame : Frame) (env : List Value) (found all new : List (List Value)) → length plan ≤ frame.level → stack ≡ rest ++ frame ∷ [] → new ≡ found ++ kept test vars (env ∷ []) → Whole stack env found all → Whole rest env new all
   end_whole stack rest frame env found all new past popped put whole =
       let here : finds plan env frame ≡ env ∷ [] = ap (λ (p : List Step). frame_finds p env frame) (drop_past plan frame.level past) in
-      ap (λ (f : List (List Value)). f ++ map (take vars) (all_find plan env rest)) put
-      ∙ append_assoc found (take vars env ∷ []) (map (take vars) (all_find plan env rest))
-      ∙ ap (λ (l : List (List Value)). found ++ map (take vars) l)
-      (ap (λ (l : List (List Value)). l ++ all_find plan env rest) (sym here) ∙ sym (find-append plan env rest (frame ∷ [])) ∙ ap (all_find plan env) (sym popped))
+      ap (λ (f : List (List Value)). f ++ kept test vars (all_find plan env rest)) put
+      ∙ append_assoc found (kept test vars (env ∷ [])) (kept test vars (all_find plan env rest))
+      ∙ ap (λ (l : List (List Value)). found ++ l)
+      (sym (kept-append test vars (env ∷ []) (all_find plan env rest))
+      ∙ ap (kept test vars) (ap (λ (l : List (List Value)). l ++ all_find plan env rest) (sym here) ∙ sym (find-append plan env rest (frame ∷ [])) ∙ ap (all_find plan env) (sym popped)))
       ∙ whole
 
   pub end_less : (stack rest : List Frame) (frame : Frame) → stack ≡ rest ++ frame ∷ [] → all_turns (most_rows plan) plan rest < all_turns (most_rows plan) plan stack
@@ -134,4 +150,16 @@ module _ (plan : List Step) (vars : ℕ) where
 
   pub all_walked : (stack : List Frame) (env : List Value) (found all : List (List Value)) → stack ≡ [] → Whole stack env found all → found ≡ all
   all_walked stack env found all empty whole =
-      sym (append-nil found) ∙ ap (λ (fs : List Frame). found ++ map (take vars) (all_find plan env fs)) (sym empty) ∙ whole
+      sym (append-nil found) ∙ ap (λ (fs : List Frame). found ++ kept test vars (all_find plan env fs)) (sym empty) ∙ whole
+
+  -- ---- the limit
+
+  pub all_taken : (most : ℕ) (stack : List Frame) (env : List Value) (found from : List (List Value)) → length found ≤ most → stack ≡ [] → Whole stack env found (kept test vars from) → found ≡ map (take vars) (take most (filter test from))
+  all_taken most stack env found from few empty whole =
+      let is = all_walked stack env found (kept test vars from) empty whole in
+      sym (take_all most found few) ∙ ap (take most) is ∙ take-map (take vars) most (filter test from)
+
+  pub most_taken : (most : ℕ) (stack : List Frame) (env : List Value) (found from : List (List Value)) → length found ≤ most → most ≤ length found → Whole stack env found (kept test vars from) → found ≡ map (take vars) (take most (filter test from))
+  most_taken most stack env found from few enough whole =
+      let rest = kept test vars (all_find plan env stack) in
+      sym (take_all most found few) ∙ sym (take-append-le most found rest enough) ∙ ap (take most) whole ∙ take-map (take vars) most (filter test from)

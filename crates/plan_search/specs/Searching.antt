@@ -1,5 +1,5 @@
 -- What a stack of frames still finds, and how many turns it takes at most.
-use Rattle.std.specs.Prelude.{◌≡◌, ℕ, zero, suc, ◌+◌, ◌<◌, ◌≤◌, Bool, true, false, List, [], ◌∷◌, ◌++◌, drop, length, replicate}
+use Rattle.std.specs.Prelude.{◌≡◌, ℕ, zero, suc, ◌+◌, ◌<◌, ◌≤◌, Bool, true, false, List, [], ◌∷◌, ◌++◌, map, filter, take, drop, length, replicate}
 use Rattle.std.specs.Option.{option_copied}
 use Rattle.tel_term.specs.declared.terms.Value.{Value}
 use Rattle.join_plans.specs.Join.{at, Step, Row, Equal, Compare, answers, is_known, learn, learn_all}
@@ -22,6 +22,10 @@ finds plan env frame = frame_finds (drop frame.level plan) env frame
 abbrev pub all_find : List Step → List Value → List Frame → List (List Value)
 all_find plan env [] = []
 all_find plan env (frame ∷ more) = all_find plan env more ++ finds plan env frame
+
+-- the first values of those that pass a test
+abbrev pub kept : (List Value → Bool) → ℕ → List (List Value) → List (List Value)
+kept test vars found = map (take vars) (filter test found)
 
 -- ---- the places that are known at a step
 

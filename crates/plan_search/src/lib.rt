@@ -6,7 +6,9 @@ mod putting;
 mod rows;
 mod searching;
 mod steps;
+mod testing;
 
 pub use comparing::compares;
 pub use searching::search;
 pub use steps::Step;
+pub use testing::BindingTest;

@@ -1,5 +1,5 @@
 //! The search: depth first, over a stack of its own, with one list of values.
-ghost use Rattle.std.specs.Prelude.{◌≡◌, ◌∷◌, [], ◌<◌, ◌≤◌, List, false, true, map, take, length, replicate, slice_get, Some, None, IfOk, OnOk};
+ghost use Rattle.std.specs.Prelude.{◌≡◌, ◌∷◌, [], ◌++◌, ◌<◌, ◌≤◌, List, false, true, map, take, filter, length, replicate, slice_get, Some, None, IfOk, OnOk};
 ghost use Rattle.std.specs.List.{All};
 ghost use Rattle.std.specs.Option.{option_copied};
 ghost use Rattle.tel_term.specs.Arithmetic.{expr_value};
@@ -14,12 +14,13 @@ ghost use Rattle.rule_plans.specs.Within.{values_in};
 ghost use Rattle.plan_search.specs.Putting.{Stays};
 ghost use Rattle.plan_search.specs.Trying.{Try, tries};
 ghost use Rattle.plan_search.specs.Steps.{plan_of, AreTerms, HaveTerms, RowsHaveTerms};
-ghost use Rattle.plan_search.specs.Searching.{IsEntered, Opens, Turns};
+ghost use Rattle.plan_search.specs.Searching.{IsEntered, Opens, Turns, kept};
 
 use crate::comparing::compares;
 use crate::putting::{put, put_row};
 use crate::rows::{count, listed, row_at};
 use crate::steps::Step;
+use crate::testing::BindingTest;
 use fact_table::{Row, Tables};
 use join_plans::Column;
 use sqlite_items::Items;
@@ -203,31 +204,59 @@ fn turn<'t>(
     }
 }
 
-/// The bindings of so many variables that a search by a plan finds, in the order in which it finds them.
-pub fn search(
+/// Puts the first values of an environment at the end, if it passes the test.
+fn keep<T: BindingTest>(
+    alloc: Global,
+    symbols: &Symbols,
+    env: &[Value],
+    vars: usize,
+    test: &T,
+    found: &mut Vec<Items<Value>>,
+) -> Result<(), Memory>
+    requires test { T.can_test test.now symbols.now (length env.now) }
+    requires env { AreTerms symbols.now env.now }
+    requires vars { vars ≤ length env.now }
+    ensures { OnOk result (found.new.items ≡ found.old.items ++ kept (T.passes test.now symbols.now) vars (env.now ∷ [])) }
+{
+    if !test.passes(symbols, env) {
+        return Ok(());
+    }
+    found.push(Items::from_slice(alloc, &env[..vars])?)?;
+    Ok(())
+}
+
+/// The bindings of so many variables that a search by a plan finds, of those environments that pass a
+/// test, in the order in which it finds them. It stops as soon as there are `most`.
+pub fn search<T: BindingTest>(
     alloc: Global,
     tables: &Tables,
     symbols: &Symbols,
     steps: &[Step<'_>],
     env: Items<Value>,
     vars: usize,
+    test: &T,
+    most: usize,
 ) -> Result<Vec<Items<Value>>, Memory>
     requires plan { IsPlan (replicate (length env) false) (plan_of tables.now symbols.now steps.now) }
     requires terms { HaveTerms symbols.now steps.now }
     requires rows { RowsHaveTerms symbols.now tables.now }
     requires env { AreTerms symbols.now env }
     requires vars { vars ≤ length env }
-    ensures { IfOk result (λ found. found.items ≡ map (take vars) (answers (plan_of tables.now symbols.now steps.now) env)) }
+    requires test { T.can_test test.now symbols.now (length env) }
+    ensures { IfOk result (λ found. found.items ≡ map (take vars) (take most (filter (T.passes test.now symbols.now) (answers (plan_of tables.now symbols.now steps.now) env)))) }
 {
     let mut env = env;
     let mut found = Vec::new(alloc);
     let mut stack = Items::new(alloc);
     stack.push(enter(tables, symbols, steps, 0, env.as_slice()))?;
     'walking: while let Some(frame) = stack.pop() {
+        if found.len() >= most {
+            return Ok(found);
+        }
         if frame.level < steps.len() {
             turn(tables, symbols, steps, &mut env, &mut stack, frame)?;
         } else {
-            found.push(Items::from_slice(alloc, &env.as_slice()[..vars])?)?;
+            keep(alloc, symbols, env.as_slice(), vars, test, &mut found)?;
         }
     }
     Ok(found)

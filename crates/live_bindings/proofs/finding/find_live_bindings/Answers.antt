@@ -1,11 +1,7 @@
-use Rattle.std.proofs.Common.{List, sym, ap, ◌∙◌, subst}
-use Rattle.std.specs.List.{filter}
-use Rattle.tel_term.specs.declared.terms.Value.{Value}
-use Rattle.live_instances.specs.Instances.{makes_instance}
+use Rattle.std.proofs.Common.{arith}
 use Rattle.join_plans.specs.Join.{answers}
 use Rattle.plan_search.specs.Steps.{plan_of}
-use Rattle.binding_sort.specs.Sorting.{AreOfTerms}
-use Rattle.live_bindings.proofs.Found.{body_terms, found_terms, kept_once, kept_terms, are_live}
+use Rattle.live_bindings.proofs.Found.{body_terms, found_once, found_terms, are_live, are_more, sorted_few}
 use Rattle.live_bindings.proofs.Planning.{runs, enough, env_terms, found_live}
 use Rattle.live_bindings.proofs.finding.find_live_bindings.Goals as goal
 
@@ -24,33 +20,39 @@ search-requires-clause-vars c =
     let planned = c.requires.planned in
     enough c.args.tables.now c.args.symbols.now c.args.steps.now c.args.places c.args.vars c.args.head.now c.args.body.now planned.0 planned.1 planned.2 c.in_ok-env.env c.in_ok-env.ensures
 
-pub instances_among-requires-clause-terms : goal.instances_among-requires-clause-terms
-instances_among-requires-clause-terms c = body_terms c.args.symbols.now c.args.vars c.args.head.now c.args.body.now c.requires.planned.2.within
+pub search-requires-clause-test : goal.search-requires-clause-test
+search-requires-clause-test c =
+    let planned = c.requires.planned in (
+      body_terms c.args.symbols.now c.args.vars c.args.head.now c.args.body.now planned.2.within,
+      enough c.args.tables.now c.args.symbols.now c.args.steps.now c.args.places c.args.vars c.args.head.now c.args.body.now planned.0 planned.1 planned.2 c.in_ok-env.env c.in_ok-env.ensures,
+    )
 
-pub instances_among-requires-clause-found : goal.instances_among-requires-clause-found
-instances_among-requires-clause-found c =
-    let planned = c.requires.planned in
-    let live = found_live c.args.tables.now c.args.symbols.now c.args.steps.now c.args.places c.args.vars c.args.head.now c.args.body.now planned.0 planned.1 planned.2 c.in_ok-env.env c.in_ok-env.ensures in
-    subst (λ (l : List (List Value)). AreOfTerms c.args.symbols.now l) (sym c.in_ok-found.ensures)
-    (found_terms planned.0 c.args.symbols.now c.args.vars c.args.head.now c.args.body.now (answers (plan_of c.args.tables.now c.args.symbols.now c.args.steps.now) c.in_ok-env.env) live)
+pub returns-then-len-most-clause-large : goal.returns-then-len-most-clause-large
+returns-then-len-most-clause-large c = λ statements rows planned.
+    let live = found_live c.args.tables.now c.args.symbols.now c.args.steps.now c.args.places c.args.vars c.args.head.now c.args.body.now statements rows planned c.in_ok-env.env c.in_ok-env.ensures in
+    are_more statements c.args.symbols.now c.args.vars c.args.head.now c.args.body.now (answers (plan_of c.args.tables.now c.args.symbols.now c.args.steps.now) c.in_ok-env.env) live c.args.most c.in_ok-live.live.items c.in_ok-live.ensures (omega (arith, c.len.ensures, c.in_ok-live.live.ok.0, c.if-len-most.true))
 
 pub sort_bindings-requires-clause-once : goal.sort_bindings-requires-clause-once
 sort_bindings-requires-clause-once c =
     let planned = c.requires.planned in
     let live = found_live c.args.tables.now c.args.symbols.now c.args.steps.now c.args.places c.args.vars c.args.head.now c.args.body.now planned.0 planned.1 planned.2 c.in_ok-env.env c.in_ok-env.ensures in
-    kept_once planned.0 c.args.symbols.now c.args.vars c.args.head.now c.args.body.now (answers (plan_of c.args.tables.now c.args.symbols.now c.args.steps.now) c.in_ok-env.env) live c.in_ok-live.live.items
-    (c.in_ok-live.ensures ∙ ap (filter (makes_instance c.args.symbols.now c.args.head.now c.args.body.now)) c.in_ok-found.ensures)
+    found_once planned.0 c.args.symbols.now c.args.vars c.args.head.now c.args.body.now (answers (plan_of c.args.tables.now c.args.symbols.now c.args.steps.now) c.in_ok-env.env) live c.args.most c.in_ok-live.live.items c.in_ok-live.ensures (omega (arith, c.len.ensures, c.in_ok-live.live.ok.0, c.if-len-most.false))
 
 pub sort_bindings-requires-clause-terms : goal.sort_bindings-requires-clause-terms
 sort_bindings-requires-clause-terms c =
     let planned = c.requires.planned in
     let live = found_live c.args.tables.now c.args.symbols.now c.args.steps.now c.args.places c.args.vars c.args.head.now c.args.body.now planned.0 planned.1 planned.2 c.in_ok-env.env c.in_ok-env.ensures in
-    kept_terms planned.0 c.args.symbols.now c.args.vars c.args.head.now c.args.body.now (answers (plan_of c.args.tables.now c.args.symbols.now c.args.steps.now) c.in_ok-env.env) live c.in_ok-live.live.items
-    (c.in_ok-live.ensures ∙ ap (filter (makes_instance c.args.symbols.now c.args.head.now c.args.body.now)) c.in_ok-found.ensures)
+    found_terms planned.0 c.args.symbols.now c.args.vars c.args.head.now c.args.body.now (answers (plan_of c.args.tables.now c.args.symbols.now c.args.steps.now) c.in_ok-env.env) live c.args.most c.in_ok-live.live.items c.in_ok-live.ensures (omega (arith, c.len.ensures, c.in_ok-live.live.ok.0, c.if-len-most.false))
 
-pub returns : goal.returns
-returns c = λ statements rows planned.
+pub returns-clause-live : goal.returns-clause-live
+returns-clause-live c = λ statements rows planned.
     let live = found_live c.args.tables.now c.args.symbols.now c.args.steps.now c.args.places c.args.vars c.args.head.now c.args.body.now statements rows planned c.in_ok-env.env c.in_ok-env.ensures in
-    are_live statements c.args.symbols.now c.args.vars c.args.head.now c.args.body.now (answers (plan_of c.args.tables.now c.args.symbols.now c.args.steps.now) c.in_ok-env.env) live c.in_ok-live.live.items
-    (c.in_ok-live.ensures ∙ ap (filter (makes_instance c.args.symbols.now c.args.head.now c.args.body.now)) c.in_ok-found.ensures)
+    are_live statements c.args.symbols.now c.args.vars c.args.head.now c.args.body.now (answers (plan_of c.args.tables.now c.args.symbols.now c.args.steps.now) c.in_ok-env.env) live c.args.most c.in_ok-live.live.items c.in_ok-live.ensures (omega (arith, c.len.ensures, c.in_ok-live.live.ok.0, c.if-len-most.false))
+    c.sort_bindings.new.bindings.items c.in_ok-sort_bindings.ensures.rise c.in_ok-sort_bindings.ensures.members
+
+pub returns-clause-few : goal.returns-clause-few
+returns-clause-few c =
+    let planned = c.requires.planned in
+    let live = found_live c.args.tables.now c.args.symbols.now c.args.steps.now c.args.places c.args.vars c.args.head.now c.args.body.now planned.0 planned.1 planned.2 c.in_ok-env.env c.in_ok-env.ensures in
+    sorted_few planned.0 c.args.symbols.now c.args.vars c.args.head.now c.args.body.now (answers (plan_of c.args.tables.now c.args.symbols.now c.args.steps.now) c.in_ok-env.env) live c.args.most c.in_ok-live.live.items c.in_ok-live.ensures (omega (arith, c.len.ensures, c.in_ok-live.live.ok.0, c.if-len-most.false))
     c.sort_bindings.new.bindings.items c.in_ok-sort_bindings.ensures.rise c.in_ok-sort_bindings.ensures.members
