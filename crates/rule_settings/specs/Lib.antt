@@ -1,0 +1,4 @@
+pub mod Said
+pub mod Candidates
+pub mod Numbers
+pub mod Waiting
