@@ -1,6 +1,6 @@
 -- Table atoms as a plan sees them.
 use Rattle.std.proofs.Common.{◌≡◌, inl, inr, ℕ, suc, ◌<◌, ◌≤◌, Bool, true, false, List, [], ◌∷◌, map, refl, sym, ap, ◌∙◌, subst, ⊎_elim, arith, true≢false}
-use Rattle.std.specs.Prelude.{Ok, Err, Option, Some, None, if◌then◌else◌}
+use Rattle.std.specs.Prelude.{◌&&◌, ◌==◌, Ok, Err, Option, Some, None, if◌then◌else◌}
 use Rattle.std.specs.List.{list_all, flat_map}
 use Rattle.std.proofs.lemmas.Bool.{and_parts, and_from}
 use Rattle.tel_base.specs.Members.{In}
@@ -76,25 +76,52 @@ passes_is : (test : List Value → Bool) (o : Option (List Value)) → passes te
 passes_is test None h = absurd (true≢false (sym h))
 passes_is test (Some row) h = (row, refl, h)
 
+-- the predicates of these are tables
+abbrev pub AreTables : List Statement → List Atom → Type 0
+AreTables statements atoms = (atom : Atom) → In atom atoms → is_table statements (predicate_of atom) ≡ true
+
 module _ (statements : List Statement) (symbols : List Term) (rows : Rows) (are : AreRowsOf statements symbols rows) (b : List Value) where
-  atom_to : (atom : Atom) → atom_is_row statements b atom ≡ true → IsRow b (table_atom_of rows atom)
-  atom_to atom h =
+  atom_to : (atom : Atom) → is_table statements (predicate_of atom) ≡ true → atom_is_row statements b atom ≡ true → IsRow b (table_atom_of rows atom)
+  atom_to atom table h =
       let found = passes_is (is_row statements (predicate_of atom)) (values_of b atom.args) h in
-      record { row = found.0; has = (are.same (predicate_of atom) found.0).1 found.2; is = args_to b atom.args found.0 found.1 }
+      record { row = found.0; has = (are.same (predicate_of atom) table found.0).1 found.2; is = args_to b atom.args found.0 found.1 }
 
-  atom_from : (atom : Atom) → IsRow b (table_atom_of rows atom) → atom_is_row statements b atom ≡ true
-  atom_from atom is =
-      ap (passes (is_row statements (predicate_of atom))) (args_from b atom.args is.row is.is) ∙ (are.same (predicate_of atom) is.row).0 is.has
+  atom_from : (atom : Atom) → is_table statements (predicate_of atom) ≡ true → IsRow b (table_atom_of rows atom) → atom_is_row statements b atom ≡ true
+  atom_from atom table is =
+      ap (passes (is_row statements (predicate_of atom))) (args_from b atom.args is.row is.is) ∙ (are.same (predicate_of atom) table is.row).0 is.has
 
-  pub atoms_to : (atoms : List Atom) → list_all (atom_is_row statements b) atoms ≡ true → AreRows b (map (table_atom_of rows) atoms)
-  atoms_to [] h = tt
-  atoms_to (atom ∷ more) h =
+  pub atoms_to : (atoms : List Atom) → AreTables statements atoms → list_all (atom_is_row statements b) atoms ≡ true → AreRows b (map (table_atom_of rows) atoms)
+  atoms_to [] tables h = tt
+  atoms_to (atom ∷ more) tables h =
       let both = and_parts (atom_is_row statements b atom) (list_all (atom_is_row statements b) more) h in
-      (atom_to atom both.0, atoms_to more both.1)
+      (atom_to atom (tables atom (inl refl)) both.0, atoms_to more (λ other there. tables other (inr there)) both.1)
 
-  pub atoms_from : (atoms : List Atom) → AreRows b (map (table_atom_of rows) atoms) → list_all (atom_is_row statements b) atoms ≡ true
-  atoms_from [] h = refl
-  atoms_from (atom ∷ more) h = and_from (atom_is_row statements b atom) (list_all (atom_is_row statements b) more) (atom_from atom h.0) (atoms_from more h.1)
+  pub atoms_from : (atoms : List Atom) → AreTables statements atoms → AreRows b (map (table_atom_of rows) atoms) → list_all (atom_is_row statements b) atoms ≡ true
+  atoms_from [] tables h = refl
+  atoms_from (atom ∷ more) tables h =
+      and_from (atom_is_row statements b atom) (list_all (atom_is_row statements b) more) (atom_from atom (tables atom (inl refl)) h.0) (atoms_from more (λ other there. tables other (inr there)) h.1)
+
+-- ---- table atoms are of tables
+
+item_table : (statements : List Statement) (nots : ℕ) (item : LitItem) (atom : Atom) → In atom (item_table_atoms statements nots item) → is_table statements (predicate_of atom) ≡ true
+item_table statements nots (items.Atom other) atom there = of (is_table_atom (is_table statements) nots other) refl there
+  where
+    table : is_table_atom (is_table statements) nots other ≡ true → is_table statements (predicate_of other) ≡ true
+    table is =
+        let unprimed = and_parts (nots == 0) ((other.before == 0) && ((other.after == 0) && is_table statements (predicate_of other))) is in
+        let after = and_parts (other.before == 0) ((other.after == 0) && is_table statements (predicate_of other)) unprimed.1 in
+        (and_parts (other.after == 0) (is_table statements (predicate_of other)) after.1).1
+
+    of : (t : Bool) → is_table_atom (is_table statements) nots other ≡ t → In atom (if t then other ∷ [] else []) → is_table statements (predicate_of atom) ≡ true
+    of true is here = ⊎_elim (λ (same : other ≡ atom). subst (λ (a : Atom). is_table statements (predicate_of a) ≡ true) same (table is)) (λ none. absurd none) here
+    of false is here = absurd here
+item_table statements nots (items.Tel formula) atom there = absurd there
+item_table statements nots (items.Compare relation left right) atom there = absurd there
+
+pub table_atoms_are : (statements : List Statement) (body : List Literal) → AreTables statements (table_atoms statements body)
+table_atoms_are statements body atom there =
+    let from = In-flat_map_from (λ (l : Literal). item_table_atoms statements l.nots l.item) atom body there in
+    item_table statements from.0.nots from.0.item atom from.2
 
 -- ---- variables below a number
 

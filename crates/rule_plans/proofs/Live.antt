@@ -34,7 +34,7 @@ use Rattle.rule_plans.specs.Goals.{Rows, expression_of, arg_from, arg_of, compar
 use Rattle.rule_plans.specs.Within.{AreWithin, AreRowsOf}
 use Rattle.rule_plans.specs.Laws.{IsFront, RulePlansFindTheLive}
 use Rattle.rule_plans.proofs.Exprs.{value_term}
-use Rattle.rule_plans.proofs.Atoms.{ok_from, atoms_to, atoms_from, atoms_below, atom_in_rule, after_atoms_least}
+use Rattle.rule_plans.proofs.Atoms.{ok_from, atoms_to, atoms_from, table_atoms_are, atoms_below, atom_in_rule, after_atoms_least}
 use Rattle.rule_plans.proofs.Bodies.{equation_literal, body_met}
 
 -- ---- fronts of lists
@@ -223,7 +223,7 @@ module _ (statements : List Statement) (symbols : List Term) (rows : Rows) (coun
       let begins : take count front.whole ≡ b = ap (λ (n : ℕ). take n front.whole) (sym size) ∙ front.begins in
       let rows_hold = (plans_are_atoms (take count front.whole) atoms (below_front front.whole front.there)).1 (found_filled front.whole front.there) in
       and_from (makes_instance symbols head body b) (list_all (atom_is_row statements b) (table_atoms statements body)) makes
-      (atoms_from statements symbols rows are b (table_atoms statements body) (subst (λ (c : List Value). AreRows c atoms) begins rows_hold))
+      (atoms_from statements symbols rows are b (table_atoms statements body) (table_atoms_are statements body) (subst (λ (c : List Value). AreRows c atoms) begins rows_hold))
 
   live_found : (b : List Value) → is_binding symbols count b ≡ true → is_live statements symbols head body b ≡ true → (makes_instance symbols head body b ≡ true) × IsFront b (answers steps env)
   live_found b binding live =
@@ -231,7 +231,7 @@ module _ (statements : List Statement) (symbols : List Term) (rows : Rows) (coun
       let parts = and_parts (length b == count) (list_all (is_value symbols) b) binding in
       let size = eqb-true (length b) count parts.0 in
       let below_b = subst (λ (n : ℕ). AtomsBelow n atoms) (sym size) below in
-      let filled = (plans_are_atoms b atoms below_b).0 (atoms_to statements symbols rows are b (table_atoms statements body) both.1) in
+      let filled = (plans_are_atoms b atoms below_b).0 (atoms_to statements symbols rows are b (table_atoms statements body) (table_atoms_are statements body) both.1) in
       let whole = b ++ filled.more in
       let total : length whole ≡ length env = length-append b filled.more ∙ filled.long ∙ ap (λ (n : ℕ). after_atoms n atoms) size ∙ sym long in
       let row_met = (atom_goals_are whole count atoms).1 (subst (λ (n : ℕ). PlanHolds whole n atoms) size filled.holds) in

@@ -10,7 +10,7 @@ use Rattle.tel_term.specs.declared.exprs.Expr.TheOpen as layers
 use Rattle.tel_term.specs.declared.exprs.Expr.TheFolds.{fold-Expr}
 use Rattle.tel_rule.specs.declared.statements.Signature.{Signature}
 use Rattle.tel_rule.specs.declared.statements.Statement.{Statement}
-use Rattle.tel_semantics.specs.Tables.{is_row}
+use Rattle.tel_semantics.specs.Tables.{is_table, is_row}
 use Rattle.rule_binding.specs.Binding.{vars_of}
 use Rattle.live_instances.specs.Bindings.{is_value}
 use Rattle.join_plans.specs.Once.{IsOnce}
@@ -39,8 +39,8 @@ pub record IsWithin (symbols : List Term) (count : ℕ) (expr : Expr) : Type 0 w
 abbrev pub AreWithin : List Term → ℕ → List Expr → Type 0
 AreWithin symbols count exprs = (expr : Expr) → In expr exprs → IsWithin symbols count expr
 
--- these are the rows of each predicate, each once; all are of terms of the program
+-- these are the rows of each table, each once; those of every predicate are of terms of the program
 pub record AreRowsOf (statements : List Statement) (symbols : List Term) (rows : Rows) : Type 0 where
-  pub same : (predicate : Signature) (row : List Value) → In row (rows predicate) ↔ IsTrue (is_row statements predicate row)
+  pub same : (predicate : Signature) → IsTrue (is_table statements predicate) → (row : List Value) → In row (rows predicate) ↔ IsTrue (is_row statements predicate row)
   pub once : (predicate : Signature) → IsOnce (rows predicate)
   pub terms : (predicate : Signature) (row : List Value) → In row (rows predicate) → IsTrue (list_all (is_value symbols) row)
