@@ -19,7 +19,7 @@ use Rattle.plan_search.specs.Steps.{AreTerms}
 use Rattle.plan_order.specs.declared.goals.Goal.{Goal}
 use Rattle.plan_order.specs.declared.goals.Goal.TheVariants as goals
 use Rattle.plan_order.specs.Goals.{AreBelow, IsSound, GoalHasTerms}
-use Rattle.rule_goals.specs.Said.{Said, Row, Equal, Compare, said, all_said, Numbers, own_place, next_free, arg_places, behind_args, arg_said, args_said, table_of, row_said, behind_row, item_rows, behind_item, body_rows, behind_body, side_said, sides_said, equation_said, comparison_said, equations_said, comparisons_said, SayBody}
+use Rattle.rule_goals.specs.Said.{Said, Row, Equal, Compare, said, all_said, Numbers, own_place, next_free, arg_places, behind_args, arg_said, args_said, table_of, row_said, behind_row, item_rows, behind_item, body_rows, behind_body, side_said, sides_said, equation_said, comparison_said, equations_said, comparisons_said, SayBody, SayRows}
 use Rattle.rule_goals.specs.Laws.{body_exprs, AreFit}
 
 -- ---- places grow
@@ -214,3 +214,11 @@ goals_fit number symbols vars body places list say within =
     (subst (λ (l : List Said). AllFit symbols vars places wide l) (sym say.goals_are)
     (both_fit symbols vars places wide (body_rows number vars body) (equations_said body ++ comparisons_said body) (rows_fit symbols vars places wide number vars body end within)
     (both_fit symbols vars places wide (equations_said body) (comparisons_said body) (equations_fit symbols vars places wide body within) (comparisons_fit symbols vars places wide body within))))
+
+pub row_goals_fit : (number : Numbers) (symbols : List Term) (vars : ℕ) (body : List Literal) (places : ℕ) (list : List Goal) → SayRows number vars body places list → AreWithin symbols vars (body_exprs body) → AreFit symbols places list
+row_goals_fit number symbols vars body places list say within =
+    let least = body_least number vars body in
+    let are = say.places_are in
+    let wide : vars ≤ places = omega (arith, least, are) in
+    let end : behind_body number vars body ≤ places = omega (arith, are) in
+    list_fits symbols vars places wide list (subst (λ (l : List Said). AllFit symbols vars places wide l) (sym say.goals_are) (rows_fit symbols vars places wide number vars body end within))

@@ -27,9 +27,9 @@ use Rattle.plan_search.specs.Steps.{Tables}
 use Rattle.plan_order.specs.declared.goals.Goal.{Goal}
 use Rattle.plan_order.specs.declared.goals.Goal.TheVariants as goals
 use Rattle.plan_order.specs.Goals.{meant}
-use Rattle.rule_goals.specs.Said.{Said, Row, Equal, Compare, said, all_said, Numbers, own_place, next_free, arg_places, behind_args, arg_said, args_said, table_of, row_said, behind_row, item_rows, behind_item, body_rows, behind_body, side_said, sides_said, equation_said, comparison_said, equations_said, comparisons_said, SayBody}
+use Rattle.rule_goals.specs.Said.{Said, Row, Equal, Compare, said, all_said, Numbers, own_place, next_free, arg_places, behind_args, arg_said, args_said, table_of, row_said, behind_row, item_rows, behind_item, body_rows, behind_body, side_said, sides_said, equation_said, comparison_said, equations_said, comparisons_said, SayBody, SayRows}
 use Rattle.rule_goals.specs.Numbers.{has_number, AreNumbered}
-use Rattle.rule_goals.specs.Laws.{AreGoalsOf, GoalsOfBodiesAreRuleGoals}
+use Rattle.rule_goals.specs.Laws.{AreGoalsOf, AreRowGoalsOf, GoalsOfBodiesAreRuleGoals}
 
 -- ---- places
 
@@ -184,6 +184,12 @@ module _ (tables : Tables) (symbols : List Term) where
         ∙ ap (after_atoms free) (sym (atoms_apart literal body))
 
     -- ---- bodies
+
+    pub row_goals_of : (vars : ℕ) (body : List Literal) (count : ℕ) (list : List Goal) → SayRows number vars body count list → AreRowGoalsOf statements symbols rows tables vars body count list
+    row_goals_of vars body count list say = record {
+      places_are = say.places_are ∙ behind_is vars body;
+      goals_are = means_all list ∙ ap (map means) say.goals_are ∙ rows_are vars body;
+    }
 
     pub goals_of : (vars : ℕ) (body : List Literal) (count : ℕ) (list : List Goal) → SayBody number vars body count list → AreGoalsOf statements symbols rows tables vars body count list
     goals_of vars body count list say = record {

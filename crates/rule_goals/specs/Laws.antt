@@ -22,6 +22,11 @@ pub record AreGoalsOf (statements : List Statement) (symbols : List Term) (rows 
   pub places_are : places ≡ place_count statements rows vars body
   pub goals_are : map (meant tables symbols) list ≡ row_goals statements rows vars body ++ body_goals symbols body
 
+-- the goals say that the table atoms of a body are rows, and have so many places
+pub record AreRowGoalsOf (statements : List Statement) (symbols : List Term) (rows : Rows) (tables : Tables) (vars : ℕ) (body : List Literal) (places : ℕ) (list : List Goal) : Type 0 where
+  pub places_are : places ≡ place_count statements rows vars body
+  pub goals_are : map (meant tables symbols) list ≡ row_goals statements rows vars body
+
 -- the expressions of a body, from left to right
 abbrev pub body_exprs : List Literal → List Expr
 body_exprs body = flat_map (λ (literal : Literal). item_exprs literal.item) body

@@ -129,3 +129,8 @@ comparisons_said body = flat_map (λ (literal : Literal). comparison_said litera
 pub record SayBody (number : Numbers) (vars : ℕ) (body : List Literal) (places : ℕ) (list : List Goal) : Type 0 where
   pub places_are : places ≡ behind_body number vars body
   pub goals_are : all_said list ≡ body_rows number vars body ++ (equations_said body ++ comparisons_said body)
+
+-- the goals of its table atoms alone, and how many places they have
+pub record SayRows (number : Numbers) (vars : ℕ) (body : List Literal) (places : ℕ) (list : List Goal) : Type 0 where
+  pub places_are : places ≡ behind_body number vars body
+  pub goals_are : all_said list ≡ body_rows number vars body
