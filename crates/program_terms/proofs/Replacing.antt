@@ -38,9 +38,8 @@ use Rattle.rule_constants.proofs.ExprLayers.{replaced-value, replaced-var, repla
 use Rattle.rule_constants.proofs.Kept.{fold-value, fold-var, fold-minus, fold-sum, fold-product, fold-kept}
 use Rattle.live_instances.specs.Bindings.{is_value}
 use Rattle.live_instances.specs.Instances.{layer_exprs, item_exprs, head_exprs, rule_exprs}
-use Rattle.rule_plans.specs.Within.{IsWithin, AreWithin, values_in, layer_values, operand_values}
+use Rattle.rule_plans.specs.Within.{IsWithin, AreWithin, values_in, layer_values, operand_values, arg_exprs, tuple_exprs, kind_exprs, StatementsAreWithin}
 use Rattle.rule_plans.proofs.Exprs.{value_term}
-use Rattle.program_terms.specs.Within.{arg_exprs, tuple_exprs, kind_exprs, StatementsAreWithin}
 use Rattle.program_terms.specs.Laws.{ReplacedAreWithin}
 use Rattle.program_terms.proofs.Nearness.{of_operands}
 

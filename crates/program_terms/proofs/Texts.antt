@@ -14,8 +14,7 @@ use Rattle.grammar_laws.specs.Points.{at}
 use Rattle.grammar_laws.specs.Shapes.{Each}
 use Rattle.part_syntax.specs.Grammar.{Stated, IsStated, Item, InPart, Says, IsText, statements_in, said_in, part_behind, afresh}
 use Rattle.part_syntax.specs.Programs.{ReadTexts, IsProgram, levels, unknown}
-use Rattle.rule_plans.specs.Within.{IsWithin}
-use Rattle.program_terms.specs.Within.{kind_exprs, StatementsAreWithin}
+use Rattle.rule_plans.specs.Within.{IsWithin, kind_exprs, StatementsAreWithin}
 use Rattle.program_terms.specs.Laws.{ProgramsAreWithin}
 use Rattle.program_terms.proofs.Nearness.{Later, near-stays}
 use Rattle.program_terms.proofs.Expressions.{EachNear, each-near-stays}
