@@ -15,8 +15,8 @@ use Rattle.formula_syntax.specs.Senses.{sense}
 use Rattle.formula_syntax.specs.Grammar.{by_itself, plain, is_sign, product_op_of, sum_op_of, name_of, const_of, prefix_of, pair_op_of, arrow_op_of, Terminal, AMark, ALeaf, AProductOp, ASumOp, AName, AConst, APrefix, APairOp, AnArrow, WordOf, word, leaf, Over, meant, it, product_of, sum_of, product, sum, expr, negative, bracketed, deep_value, IsValue, IsExpr, args_of, args, args_or_none, atom_of, atom, IsAtom, SignRead, signed, behind_all}
 use Rattle.grammar_laws.specs.Shapes.{One}
 use Rattle.grammar_laws.specs.Productions.{and, and_on, many, terminal, means}
-use Rattle.program_terms.proofs.Holding.{OfMade, OfEach, OfMaybe, Holds, Stays, Gives, either-gives, gives-it}
-use Rattle.program_terms.proofs.Nearness.{Near, Later, later-now, later-then, near-stays, leaf-gives, near-minus, near-sum, near-product, AllNear}
+use Rattle.checked_programs.proofs.Holding.{OfMade, OfEach, OfMaybe, Holds, Stays, Gives, either-gives, gives-it}
+use Rattle.checked_programs.proofs.Nearness.{Near, Later, later-now, later-then, near-stays, leaf-gives, near-minus, near-sum, near-product, AllNear}
 
 -- ---- words
 

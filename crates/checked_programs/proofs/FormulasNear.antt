@@ -17,9 +17,9 @@ use Rattle.tel_rule.specs.declared.formulas.Formula.TheFolds.{fold-Formula, fold
 use Rattle.formula_syntax.specs.Points.{Known}
 use Rattle.formula_syntax.specs.Grammar.{Over, meant, it, constant, flat_formula, prefixed, paired, pair, many_of, conjunction, disjunction, arrow, formula, behind_prefix, deep_formula, IsUnary, IsFormula, IsExpr, atom, behind_all}
 use Rattle.live_instances.specs.Instances.{layer_exprs}
-use Rattle.program_terms.proofs.Holding.{OfEach, OfMaybe, Gives, Stays, either-gives}
-use Rattle.program_terms.proofs.Nearness.{Near, Later, later-now, later-then, near-stays}
-use Rattle.program_terms.proofs.Expressions.{Of, over-gives, so-gives, expr-gives, EachNear, each-near-stays, no-near, both-near, AtomNear, atom-near}
+use Rattle.checked_programs.proofs.Holding.{OfEach, OfMaybe, Gives, Stays, either-gives}
+use Rattle.checked_programs.proofs.Nearness.{Near, Later, later-now, later-then, near-stays}
+use Rattle.checked_programs.proofs.Expressions.{Of, over-gives, so-gives, expr-gives, EachNear, each-near-stays, no-near, both-near, AtomNear, atom-near}
 
 -- the expressions of a formula, from left to right
 abbrev pub formula_exprs : Formula → List Expr

@@ -15,10 +15,10 @@ use Rattle.grammar_laws.specs.Shapes.{Each}
 use Rattle.part_syntax.specs.Grammar.{Stated, IsStated, Item, InPart, Says, IsText, statements_in, said_in, part_behind, afresh}
 use Rattle.part_syntax.specs.Programs.{ReadTexts, IsProgram, levels, unknown}
 use Rattle.rule_plans.specs.Within.{IsWithin, kind_exprs, StatementsAreWithin}
-use Rattle.program_terms.specs.Laws.{ProgramsAreWithin}
-use Rattle.program_terms.proofs.Nearness.{Later, near-stays}
-use Rattle.program_terms.proofs.Expressions.{EachNear, each-near-stays}
-use Rattle.program_terms.proofs.StatementsNear.{StatementNear, kind_of, item-gives}
+use Rattle.checked_programs.specs.Laws.{ProgramsAreWithin}
+use Rattle.checked_programs.proofs.Nearness.{Later, near-stays}
+use Rattle.checked_programs.proofs.Expressions.{EachNear, each-near-stays}
+use Rattle.checked_programs.proofs.StatementsNear.{StatementNear, kind_of, item-gives}
 
 -- what is known, with these variables
 abbrev with : List Term → List (List ℕ) → Known

@@ -40,8 +40,8 @@ use Rattle.live_instances.specs.Bindings.{is_value}
 use Rattle.live_instances.specs.Instances.{layer_exprs, item_exprs, head_exprs, rule_exprs}
 use Rattle.rule_plans.specs.Within.{IsWithin, AreWithin, values_in, layer_values, operand_values, arg_exprs, tuple_exprs, kind_exprs, StatementsAreWithin}
 use Rattle.rule_plans.proofs.Exprs.{value_term}
-use Rattle.program_terms.specs.Laws.{ReplacedAreWithin}
-use Rattle.program_terms.proofs.Nearness.{of_operands}
+use Rattle.checked_programs.specs.Laws.{ReplacedAreWithin}
+use Rattle.checked_programs.proofs.Nearness.{of_operands}
 
 -- ---- the values of an expression
 

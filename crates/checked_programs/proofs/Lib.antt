@@ -5,3 +5,5 @@ pub mod FormulasNear
 pub mod StatementsNear
 pub mod Texts
 pub mod Replacing
+pub mod Sound
+pub mod FewNots

@@ -29,7 +29,7 @@ use Rattle.rule_binding.specs.Binding.{vars_of, layer_vars, operand_vars, with_v
 use Rattle.rule_constants.proofs.Kept.{fold-value, fold-var, fold-minus, fold-sum, fold-product}
 use Rattle.live_instances.specs.Bindings.{is_value}
 use Rattle.rule_plans.specs.Within.{IsWithin, values_in, layer_values, operand_values}
-use Rattle.program_terms.proofs.Holding.{Stays, Gives}
+use Rattle.checked_programs.proofs.Holding.{Stays, Gives}
 
 -- an expression speaks of what is known
 abbrev pub Near : Expr → Known → Type 0

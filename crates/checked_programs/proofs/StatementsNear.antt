@@ -26,10 +26,10 @@ use Rattle.part_syntax.specs.Grammar as grammar
 use Rattle.part_syntax.specs.Grammar.{Terminal, AMark, ATel, AName, APart, AnArity, ASeparator, ARelation, WordOf, word, is_tel, part_of, arity_of, is_separator, relation_of, Thing, ASign, AnExpr, AnAtomItem, AnAtom, AFormula, APlain, IsThing, Item, InPart, Says, IsComparison, IsAtomItem, IsPlain, IsItem, IsFactOrRule}
 use Rattle.live_instances.specs.Instances.{item_exprs, head_exprs, rule_exprs}
 use Rattle.rule_plans.specs.Within.{arg_exprs, tuple_exprs, kind_exprs}
-use Rattle.program_terms.proofs.Holding.{OfMade, OfEach, OfMaybe, Holds, Gives, Stays, either-gives, gives-it}
-use Rattle.program_terms.proofs.Nearness.{Near, Later, later-now, later-then, near-stays, leaf-gives}
-use Rattle.program_terms.proofs.Expressions.{Of as OfOver, over-gives, so-gives, expr-gives, atom-gives, EachNear, each-near-stays, no-near, more-near, both-near, AtomNear, plain-gives, itself-gives}
-use Rattle.program_terms.proofs.FormulasNear.{FormulaNear, formula-stays, formula-gives}
+use Rattle.checked_programs.proofs.Holding.{OfMade, OfEach, OfMaybe, Holds, Gives, Stays, either-gives, gives-it}
+use Rattle.checked_programs.proofs.Nearness.{Near, Later, later-now, later-then, near-stays, leaf-gives}
+use Rattle.checked_programs.proofs.Expressions.{Of as OfOver, over-gives, so-gives, expr-gives, atom-gives, EachNear, each-near-stays, no-near, more-near, both-near, AtomNear, plain-gives, itself-gives}
+use Rattle.checked_programs.proofs.FormulasNear.{FormulaNear, formula-stays, formula-gives}
 
 -- ---- what speaks of what is known
 

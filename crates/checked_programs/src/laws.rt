@@ -1,0 +1,23 @@
+//! Laws of programs as they are read and checked: functions that do nothing, whose contracts are proved facts.
+
+ghost use Rattle.checked_programs.specs.Laws.{ProgramsAreWithin, ReplacedAreWithin, ProgramsHaveFewNots, ReplacedHaveFewNots, SoundProgramsAreBound, ReplacedAreSound};
+
+/// The expressions of the program that texts are speak of its names and strings alone, of numbers in range, and of the
+/// variables of their statement. So do those of the program with its constants replaced by their values.
+pub fn terms_of_programs()
+    ensures read { ProgramsAreWithin }
+    ensures replaced { ReplacedAreWithin }
+{}
+
+/// No literal of the program that texts are stands behind more than two `not`, with its constants replaced or not.
+pub fn nots_of_programs()
+    ensures read { ProgramsHaveFewNots }
+    ensures replaced { ReplacedHaveFewNots }
+{}
+
+/// Where no cause stands in a program, the variables of each statement are bound and the arrows of each rule with a head
+/// are guarded. With its constants replaced no cause stands in it either.
+pub fn sound_programs()
+    ensures bound { SoundProgramsAreBound }
+    ensures replaced { ReplacedAreSound }
+{}
