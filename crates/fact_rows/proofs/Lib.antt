@@ -1,0 +1,9 @@
+pub mod Onces
+pub mod Ranges
+pub mod Turned
+pub mod Heads
+pub mod Held
+pub mod Counted
+pub mod Terms
+pub mod Steps
+pub mod Examples

@@ -1,0 +1,5 @@
+pub mod Forms
+pub mod Walking
+pub mod Once
+pub mod Filling
+pub mod Limit
