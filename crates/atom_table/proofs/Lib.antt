@@ -1,0 +1,12 @@
+pub mod AddedAtoms
+pub mod Agreeing
+pub mod Arranged
+pub mod Ends
+pub mod HeldKeys
+pub mod InOrder
+pub mod Lone
+pub mod PairNumbers
+pub mod Places
+pub mod Ranked
+pub mod Risen
+pub mod Symbolized
