@@ -19,11 +19,11 @@ use Rattle.tel_rule.specs.declared.statements.Kind.TheVariants as kinds
 use Rattle.tel_rule.specs.declared.statements.Statement.{Statement}
 use Rattle.tel_semantics.specs.Tables.{tuple_predicate, tuple_rows, choices, arg_values, one_value, range_values, numbers_between, numbers_from, count_of}
 use Rattle.live_instances.specs.Bindings.{is_value}
-use Rattle.rule_plans.specs.Within.{values_in, IsWithin, AreWithin}
+use Rattle.rule_plans.specs.Within.{arg_exprs, tuple_exprs, values_in, IsWithin, AreWithin}
 use Rattle.plan_search.proofs.Terms.{expr_term}
 use Rattle.rule_goals.specs.Said.{Numbers}
 use Rattle.fact_rows.specs.Filling.{Stated, rows_stated, tuple_stated, kind_stated, all_stated}
-use Rattle.fact_rows.specs.Limit.{arg_exprs, fact_exprs, FactsAreWithin}
+use Rattle.fact_rows.specs.Limit.{fact_exprs, FactsAreWithin}
 
 -- ---- the numbers of a range
 
@@ -102,7 +102,7 @@ module _ (symbols : List Term) where
       subst (λ (r : List Value). list_all (is_value symbols) r ≡ true) rest.2
       (and_from (is_value symbols first.0) (list_all (is_value symbols) rest.0) (all here (inl refl) first.0 first.1) (chosen-terms more rest.0 (λ list later. all list (inr later)) rest.1))
 
-  tuple-terms : (count : ℕ) (tuple : List Arg) (row : List Value) → AreWithin symbols count (flat_map arg_exprs tuple) → In row (tuple_rows tuple) → list_all (is_value symbols) row ≡ true
+  tuple-terms : (count : ℕ) (tuple : List Arg) (row : List Value) → AreWithin symbols count (tuple_exprs tuple) → In row (tuple_rows tuple) → list_all (is_value symbols) row ≡ true
   tuple-terms count tuple row within there = chosen-terms (map arg_values tuple) row lists there
     where
       lists : (list : List Value) → In list (map arg_values tuple) → AllTerms list
@@ -121,7 +121,7 @@ module _ (symbols : List Term) where
       let from = In-flat_map_from (tuple_stated number fact) (predicate, row) fact.tuples there in
       let tuple = from.0 in
       tuple-terms count tuple row
-      (λ expr own. within expr (In-flat_map (λ (t : List Arg). flat_map arg_exprs t) tuple expr fact.tuples from.1 own))
+      (λ expr own. within expr (In-flat_map tuple_exprs tuple expr fact.tuples from.1 own))
       (stated-row (number (tuple_predicate fact tuple)) (tuple_predicate fact tuple) predicate (tuple_rows tuple) row from.2)
   kind-terms number count (kinds.Rule head body) predicate row within there = absurd there
   kind-terms number count (kinds.Const name value) predicate row within there = absurd there

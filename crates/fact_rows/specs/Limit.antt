@@ -1,12 +1,10 @@
 -- What the tables of a program are, and when it has too many rows.
-use Rattle.std.specs.Prelude.{ℕ, ◌<◌, List, [], ◌∷◌, length, Option, Some, None, IsTrue}
+use Rattle.std.specs.Prelude.{ℕ, ◌<◌, List, [], length, Option, Some, None, IsTrue}
 use Rattle.std.specs.List.{flat_map}
 use Rattle.tel_base.specs.Members.{In}
 use Rattle.tel_term.specs.declared.terms.Term.{Term}
 use Rattle.tel_term.specs.declared.terms.Value.{Value}
 use Rattle.tel_term.specs.declared.exprs.Expr.{Expr}
-use Rattle.tel_rule.specs.declared.statements.Arg.{Arg}
-use Rattle.tel_rule.specs.declared.statements.Arg.TheVariants as args
 use Rattle.tel_rule.specs.declared.statements.Signature.{Signature}
 use Rattle.tel_rule.specs.declared.statements.Kind.{Kind}
 use Rattle.tel_rule.specs.declared.statements.Kind.TheVariants as kinds
@@ -15,7 +13,7 @@ use Rattle.tel_semantics.specs.Tables.{is_table, is_row}
 use Rattle.join_plans.specs.Once.{IsOnce}
 use Rattle.fact_table.specs.Rows.{rows_of}
 use Rattle.rule_plans.specs.Goals.{Rows}
-use Rattle.rule_plans.specs.Within.{AreWithin}
+use Rattle.rule_plans.specs.Within.{tuple_exprs, AreWithin}
 use Rattle.plan_search.specs.Steps.{Tables}
 use Rattle.rule_goals.specs.Said.{Numbers}
 
@@ -45,13 +43,9 @@ pub record HaveMoreRows (statements : List Statement) (most : ℕ) : Type 0 wher
 
 -- ---- what facts are made of
 
-abbrev pub arg_exprs : Arg → List Expr
-arg_exprs (args.One expr) = expr ∷ []
-arg_exprs (args.Range low high) = low ∷ high ∷ []
-
 -- the expressions in the arguments of a fact
 abbrev pub fact_exprs : Kind → List Expr
-fact_exprs (kinds.Facts fact) = flat_map (λ (tuple : List Arg). flat_map arg_exprs tuple) fact.tuples
+fact_exprs (kinds.Facts fact) = flat_map tuple_exprs fact.tuples
 fact_exprs (kinds.Rule head body) = []
 fact_exprs (kinds.Const name value) = []
 fact_exprs (kinds.Show shown) = []
