@@ -1,0 +1,10 @@
+pub mod Digits
+pub mod Entries
+pub mod Joined
+pub mod LineParts
+pub mod LineStops
+pub mod Listings
+pub mod Numerals
+pub mod Rests
+pub mod Sequences
+pub mod Steps
