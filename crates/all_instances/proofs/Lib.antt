@@ -1,0 +1,9 @@
+pub mod Persisting
+pub mod Split
+pub mod Shapes
+pub mod Terms
+pub mod Possible
+pub mod Says
+pub mod Suffices
+pub mod Told
+pub mod Listed

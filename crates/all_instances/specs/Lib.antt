@@ -1,0 +1,3 @@
+pub mod Traces
+pub mod AllInstances
+pub mod Laws
