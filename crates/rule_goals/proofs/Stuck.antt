@@ -64,7 +64,7 @@ value_reads (plans.Compares c) = []
 
 -- ---- variables of rows
 
-abbrev atom_vars : Atom → List ℕ
+abbrev pub atom_vars : Atom → List ℕ
 atom_vars atom = whole_args atom.args
 
 if_vars : (t : Bool) (atom : Atom) → (if t then whole_args atom.args else []) ≡ flat_map atom_vars (if t then atom ∷ [] else [])
@@ -76,7 +76,7 @@ item_vars statements nots (items.Atom atom) = if_vars (is_table_atom (is_table s
 item_vars statements nots (items.Tel formula) = refl
 item_vars statements nots (items.Compare relation left right) = refl
 
-vars_are : (statements : List Statement) (body : List Literal) → row_vars (is_table statements) body ≡ flat_map atom_vars (table_atoms statements body)
+pub vars_are : (statements : List Statement) (body : List Literal) → row_vars (is_table statements) body ≡ flat_map atom_vars (table_atoms statements body)
 vars_are statements [] = refl
 vars_are statements (literal ∷ body) =
     (λ i. item_vars statements literal.nots literal.item i ++ vars_are statements body i)

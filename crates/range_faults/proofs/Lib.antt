@@ -1,0 +1,4 @@
+pub mod Settled
+pub mod Stopping
+pub mod Agreement
+pub mod Found
