@@ -14,7 +14,7 @@ use Rattle.all_instances.specs.Traces.{Trace, AreSame, IsEquilibrium}
 use Rattle.all_instances.specs.AllInstances.{AllSay}
 
 -- what is needed of a program: its names and strings are numbered, each once, and its expressions speak of these alone, so that different values are
--- different terms. Programs that were read are such, and with their constants replaced they stay so
+-- different terms
 pub record IsWellMade (program : Program) : Type 0 where
   pub table : IsTable program.symbols
   pub within : StatementsAreWithin program.symbols program.statements
