@@ -1,21 +1,16 @@
 -- Expressions, atoms and formulas as they are read speak of what is known then.
-use Rattle.std.proofs.Common.{◌≡◌, ◌⊎◌, inl, inr, ℕ, zero, suc, Bool, true, false, List, [], ◌∷◌, ◌++◌, Option, Some, None, refl, sym, ap, subst, ◌∙◌, ⊎_elim}
-use Rattle.std.specs.Option.{option_map}
-use Rattle.std.specs.List.{flat_map}
+use Rattle.std.proofs.Common.{◌≡◌, ◌⊎◌, inl, inr, ℕ, zero, suc, Bool, true, false, List, [], ◌∷◌, ◌++◌, Option, Some, None, refl, sym, subst, ◌∙◌, ⊎_elim}
 use Rattle.tel_base.specs.Members.{In}
 use Rattle.tel_base.proofs.Members.{In-append_cases}
 use Rattle.tel_term.specs.declared.exprs.Expr.{Expr}
-use Rattle.tel_term.specs.declared.exprs.Expr.TheVariants as exprs
 use Rattle.tel_term.specs.declared.exprs.SumOp.{SumOp}
 use Rattle.tel_term.specs.declared.exprs.ProductOp.{ProductOp}
 use Rattle.tel_rule.specs.declared.formulas.Atom.{Atom}
-use Rattle.formula_syntax.specs.declared.marks.Mark.{Mark}
-use Rattle.formula_syntax.specs.Points.{Word, Known, Point, Grammar}
+use Rattle.formula_syntax.specs.Points.{Word, Known, Grammar}
 use Rattle.formula_syntax.specs.Senses.{sense}
-use Rattle.formula_syntax.specs.Grammar.{by_itself, plain, is_sign, product_op_of, sum_op_of, name_of, const_of, prefix_of, pair_op_of, arrow_op_of, Terminal, AMark, ALeaf, AProductOp, ASumOp, AName, AConst, APrefix, APairOp, AnArrow, WordOf, word, leaf, Over, meant, it, product_of, sum_of, product, sum, expr, negative, bracketed, deep_value, IsValue, IsExpr, args_of, args, args_or_none, atom_of, atom, IsAtom, SignRead, signed, behind_all}
+use Rattle.formula_syntax.specs.Grammar.{by_itself, plain, is_sign, product_op_of, sum_op_of, name_of, const_of, prefix_of, pair_op_of, arrow_op_of, Terminal, AMark, ALeaf, AProductOp, ASumOp, AName, AConst, APrefix, APairOp, AnArrow, WordOf, word, leaf, Over, meant, it, product_of, sum_of, product, expr, deep_value, IsValue, IsExpr, args, args_or_none, atom_of, atom, IsAtom, SignRead, behind_all}
 use Rattle.grammar_laws.specs.Shapes.{One}
-use Rattle.grammar_laws.specs.Productions.{and, and_on, many, terminal, means}
-use Rattle.checked_programs.proofs.Holding.{OfMade, OfEach, OfMaybe, Holds, Stays, Gives, either-gives, gives-it}
+use Rattle.checked_programs.proofs.Holding.{OfEach, OfMaybe, Holds, Stays, Gives, either-gives, gives-it}
 use Rattle.checked_programs.proofs.Nearness.{Near, Later, later-now, later-then, near-stays, leaf-gives, near-minus, near-sum, near-product, AllNear}
 
 -- ---- words

@@ -1,10 +1,9 @@
 -- No literal of a program stands behind more than two `not`.
-use Rattle.std.proofs.Common.{◌≡◌, ◌⊎◌, inl, inr, ℕ, zero, suc, ◌+◌, Bool, true, false, ◌&&◌, List, [], ◌∷◌, ◌++◌, map, Option, Some, None, refl, sym, ap, ap₂, subst, ◌∙◌}
-use Rattle.std.specs.Prelude.{IsTrue, nat_le}
+use Rattle.std.proofs.Common.{◌≡◌, ◌⊎◌, inl, inr, ℕ, ◌+◌, Bool, true, ◌&&◌, List, [], ◌∷◌, ◌++◌, map, Option, Some, None, refl, sym, ap, ap₂, subst, ◌∙◌}
+use Rattle.std.specs.Prelude.{nat_le}
 use Rattle.std.specs.List.{list_all}
 use Rattle.std.proofs.lemmas.Bool.{and_parts, and_from}
 use Rattle.tel_base.specs.Members.{In}
-use Rattle.tel_base.proofs.Members.{In-list_all, list_all-from_In}
 use Rattle.tel_rule.specs.declared.parts.Part.{Part}
 use Rattle.tel_rule.specs.declared.parts.Part.TheVariants as parts
 use Rattle.tel_rule.specs.declared.statements.Fact.{Fact}
@@ -14,20 +13,19 @@ use Rattle.tel_rule.specs.declared.statements.Literal.{Literal}
 use Rattle.tel_rule.specs.declared.statements.Kind.{Kind}
 use Rattle.tel_rule.specs.declared.statements.Kind.TheVariants as kinds
 use Rattle.tel_rule.specs.declared.statements.Statement.{Statement}
-use Rattle.tel_rule.specs.declared.statements.Program.{Program}
 use Rattle.tel_term.specs.declared.terms.Value.{Value}
-use Rattle.formula_syntax.specs.Points.{Word, Known, Point}
-use Rattle.formula_syntax.specs.Grammar.{behind_all, count}
+use Rattle.formula_syntax.specs.Points.{Known, Point}
+use Rattle.formula_syntax.specs.Grammar.{behind_all}
 use Rattle.grammar_laws.specs.Points.{at}
-use Rattle.grammar_laws.specs.Shapes.{One, Each}
+use Rattle.grammar_laws.specs.Shapes.{Each}
 use Rattle.grammar_laws.specs.Productions.{Production, means}
 use Rattle.part_syntax.specs.Grammar as grammar
-use Rattle.part_syntax.specs.Grammar.{Terminal, WordOf, word, Thing, IsThing, Item, InPart, Says, Stated, IsStated, IsItem, IsFactOrRule, statements_in, said_in, part_behind, afresh}
-use Rattle.part_syntax.specs.Programs.{ReadTexts, IsProgram, levels, unknown}
+use Rattle.part_syntax.specs.Grammar.{Terminal, WordOf, word, Thing, IsThing, Item, InPart, Says, Stated, IsStated, IsItem, statements_in, said_in, part_behind, afresh}
+use Rattle.part_syntax.specs.Programs.{ReadTexts, levels, unknown}
 use Rattle.instance_build.specs.Laws.{have_few_nots}
 use Rattle.rule_constants.specs.Constants.{links_of, replacement}
-use Rattle.rule_constants.specs.Replaced.{literal_replaced, kind_replaced, statement_replaced, IsReplaced}
-use Rattle.program_theory.specs.Templates.{has_few_nots, HasFewNots}
+use Rattle.rule_constants.specs.Replaced.{literal_replaced, kind_replaced, statement_replaced}
+use Rattle.program_theory.specs.Templates.{has_few_nots}
 use Rattle.checked_programs.specs.Laws.{ProgramsHaveFewNots, ReplacedHaveFewNots}
 use Rattle.checked_programs.proofs.Holding.{OfMade, OfEach, OfMaybe, Holds, Gives, gives-it}
 

@@ -1,7 +1,6 @@
 -- Formulas as they are read speak of what is known then.
-use Rattle.std.proofs.Common.{◌≡◌, ◌⊎◌, inl, inr, ℕ, zero, suc, List, [], ◌∷◌, ◌++◌, map, Option, Some, None, refl, sym, ap, subst, ◌∙◌}
+use Rattle.std.proofs.Common.{◌≡◌, inl, inr, ℕ, zero, suc, List, [], ◌∷◌, ◌++◌, map, Option, Some, None, sym, ap, subst, ◌∙◌}
 use Rattle.std.specs.List.{flat_map}
-use Rattle.tel_base.specs.Members.{In}
 use Rattle.tel_term.specs.declared.exprs.Expr.{Expr}
 use Rattle.tel_rule.specs.declared.formulas.Atom.{Atom}
 use Rattle.tel_rule.specs.declared.formulas.ConstOp.{ConstOp}
@@ -15,7 +14,7 @@ use Rattle.tel_rule.specs.declared.formulas.Formula.TheVariants.{rolls-Const, ro
 use Rattle.tel_rule.specs.declared.formulas.Formula.TheOpen as layers
 use Rattle.tel_rule.specs.declared.formulas.Formula.TheFolds.{fold-Formula, fold-roll-Formula}
 use Rattle.formula_syntax.specs.Points.{Known}
-use Rattle.formula_syntax.specs.Grammar.{Over, meant, it, constant, flat_formula, prefixed, paired, pair, many_of, conjunction, disjunction, arrow, formula, behind_prefix, deep_formula, IsUnary, IsFormula, IsExpr, atom, behind_all}
+use Rattle.formula_syntax.specs.Grammar.{meant, it, flat_formula, prefixed, paired, pair, many_of, conjunction, disjunction, formula, deep_formula, IsUnary, IsFormula, IsExpr, behind_all}
 use Rattle.live_instances.specs.Instances.{layer_exprs}
 use Rattle.checked_programs.proofs.Holding.{OfEach, OfMaybe, Gives, Stays, either-gives}
 use Rattle.checked_programs.proofs.Nearness.{Near, Later, later-now, later-then, near-stays}

@@ -1,5 +1,5 @@
 -- What holds of the things of which a thing is read holds of what a production makes of them: one induction over productions.
-use Rattle.std.proofs.Common.{◌≡◌, ◌⊎◌, inl, inr, ℕ, Bool, List, [], ◌∷◌, Option, Some, None, refl, sym, subst}
+use Rattle.std.proofs.Common.{◌≡◌, ◌⊎◌, inl, inr, Bool, List, [], ◌∷◌, Option, Some, None, sym, subst}
 use Rattle.grammar_laws.specs.Points.{Point}
 use Rattle.grammar_laws.specs.Shapes.{Grammar, One, Then, Made, Each, Maybe}
 use Rattle.grammar_laws.specs.Productions.{Production, terminal, given, led, ended, ended_from, made_of, and, and_on, and_from, or, many, few, perhaps, means}

@@ -1,6 +1,6 @@
 -- What is read of an expression speaks of what is known then.
-use Rattle.std.proofs.Common.{◌≡◌, ℕ, zero, suc, ◌<◌, ◌≤◌, ◌+◌, ◌^◌, Bool, true, false, List, [], ◌∷◌, ◌++◌, map, length, Option, Some, None, refl, sym, ap, subst, ◌∙◌, inl, inr, ⊎_elim, arith}
-use Rattle.std.specs.Prelude.{pos, nat_lt, nat_le, IsTrue, bytes_eq, codes, ◌&&◌, if◌then◌else◌}
+use Rattle.std.proofs.Common.{◌≡◌, ℕ, suc, ◌<◌, ◌≤◌, ◌+◌, ◌^◌, Bool, true, false, List, [], ◌∷◌, ◌++◌, map, length, Option, Some, None, refl, sym, subst, ⊎_elim, arith}
+use Rattle.std.specs.Prelude.{pos, IsTrue, bytes_eq, codes, ◌&&◌, if◌then◌else◌}
 use Rattle.std.specs.List.{list_all}
 use Rattle.std.specs.Option.{option_map}
 use Rattle.std.proofs.lemmas.Bool.{lt-ltb, ltb-true, le-leb}
@@ -21,11 +21,11 @@ use Rattle.tel_term.specs.declared.exprs.ProductOp.{ProductOp}
 use Rattle.tel_term.specs.Arithmetic.{is_held}
 use Rattle.tel_term.specs.Symbols.{with_term, value_of, term_of, place_of}
 use Rattle.tel_term.proofs.Growth.{with_term-grows, value-stands}
-use Rattle.formula_syntax.specs.Points.{Word, Known, Point}
+use Rattle.formula_syntax.specs.Points.{Known}
 use Rattle.formula_syntax.specs.Senses.{Sense, Name, Variable, Blank, Number, Str, Sign, Other, sense, number_of, string_of, is_number, is_digit, decimal_from}
 use Rattle.formula_syntax.specs.Grammar.{known_term, known_var, new_var, place_in, with_var, leaf, leaf_of}
 use Rattle.grammar_laws.specs.Shapes.{One}
-use Rattle.rule_binding.specs.Binding.{vars_of, layer_vars, operand_vars, with_vars}
+use Rattle.rule_binding.specs.Binding.{vars_of, layer_vars, operand_vars}
 use Rattle.rule_constants.proofs.Kept.{fold-value, fold-var, fold-minus, fold-sum, fold-product}
 use Rattle.live_instances.specs.Bindings.{is_value}
 use Rattle.rule_plans.specs.Within.{IsWithin, values_in, layer_values, operand_values}

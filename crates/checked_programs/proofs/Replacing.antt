@@ -1,6 +1,6 @@
 -- The expressions of a program with its constants replaced speak of its terms, too.
-use Rattle.std.proofs.Common.{◌≡◌, ◌⊎◌, inl, inr, ℕ, zero, suc, ◌<◌, Bool, true, false, not, ◌&&◌, List, [], ◌∷◌, ◌++◌, map, length, Option, Some, None, refl, sym, ap, subst, ◌∙◌, ⊎_elim}
-use Rattle.std.specs.Prelude.{Ok, Err, IsTrue, slice_get, pos, if◌then◌else◌}
+use Rattle.std.proofs.Common.{◌≡◌, ◌⊎◌, inl, inr, ℕ, zero, suc, Bool, true, false, not, ◌&&◌, List, [], ◌∷◌, ◌++◌, map, length, Option, Some, None, refl, sym, ap, subst, ◌∙◌, ⊎_elim}
+use Rattle.std.specs.Prelude.{Ok, Err, IsTrue, slice_get, if◌then◌else◌}
 use Rattle.std.specs.List.{flat_map}
 use Rattle.std.proofs.lemmas.List.{map-append}
 use Rattle.tel_base.specs.Members.{In}
@@ -10,7 +10,6 @@ use Rattle.tel_term.specs.declared.terms.Value.{Value}
 use Rattle.tel_term.specs.declared.exprs.SumOp.{SumOp}
 use Rattle.tel_term.specs.declared.exprs.ProductOp.{ProductOp}
 use Rattle.tel_term.specs.declared.exprs.Expr.{Expr}
-use Rattle.tel_term.specs.declared.exprs.Expr.TheVariants as exprs
 use Rattle.tel_term.specs.Arithmetic.{Valued, expr_value}
 use Rattle.tel_rule.specs.declared.formulas.Atom.{Atom}
 use Rattle.tel_rule.specs.declared.formulas.Formula.{Formula, map-Formula}
@@ -29,15 +28,14 @@ use Rattle.tel_rule.specs.declared.statements.Literal.{Literal}
 use Rattle.tel_rule.specs.declared.statements.Kind.{Kind}
 use Rattle.tel_rule.specs.declared.statements.Kind.TheVariants as kinds
 use Rattle.tel_rule.specs.declared.statements.Statement.{Statement}
-use Rattle.tel_rule.specs.declared.statements.Program.{Program}
-use Rattle.rule_binding.specs.Binding.{vars_of, layer_vars}
-use Rattle.rule_constants.specs.Constants.{links_of, linked, Values, value_at, value_or, replacement, HasValue, values_after, statement_value, kind_value, defined_value, has_variable, all_known, needs_of, ok_value, expr_replaced}
-use Rattle.rule_constants.specs.Replaced.{atom_replaced, layer_replaced, formula_replaced, item_replaced, literal_replaced, head_replaced, arg_replaced, fact_replaced, kind_replaced, statement_replaced, AreValues, IsReplaced}
+use Rattle.rule_binding.specs.Binding.{layer_vars}
+use Rattle.rule_constants.specs.Constants.{links_of, linked, Values, value_at, value_or, replacement, HasValue, values_after, statement_value, kind_value, has_variable, all_known, needs_of, ok_value, expr_replaced}
+use Rattle.rule_constants.specs.Replaced.{atom_replaced, layer_replaced, formula_replaced, item_replaced, literal_replaced, head_replaced, arg_replaced, kind_replaced, statement_replaced, AreValues}
 use Rattle.rule_constants.specs.Operands.{each_replaced}
 use Rattle.rule_constants.proofs.ExprLayers.{replaced-value, replaced-var, replaced-minus, replaced-sum, replaced-product, Parts, bare, by_parts}
 use Rattle.rule_constants.proofs.Kept.{fold-value, fold-var, fold-minus, fold-sum, fold-product, fold-kept}
 use Rattle.live_instances.specs.Bindings.{is_value}
-use Rattle.live_instances.specs.Instances.{layer_exprs, item_exprs, head_exprs, rule_exprs}
+use Rattle.live_instances.specs.Instances.{layer_exprs, item_exprs, head_exprs}
 use Rattle.rule_plans.specs.Within.{IsWithin, AreWithin, values_in, layer_values, operand_values, arg_exprs, tuple_exprs, kind_exprs, StatementsAreWithin}
 use Rattle.rule_plans.proofs.Exprs.{value_term}
 use Rattle.checked_programs.specs.Laws.{ReplacedAreWithin}

@@ -1,8 +1,8 @@
 -- What a program in which no cause stands keeps.
-use Rattle.std.proofs.Common.{◌≡◌, ◌⊎◌, inl, inr, ℕ, zero, suc, ◌<◌, ◌≤◌, Bool, true, false, not, ◌&&◌, ◌||◌, List, [], ◌∷◌, map, length, Option, Some, None, refl, sym, ap, ap₂, subst, ◌∙◌, ⊎_elim, arith}
-use Rattle.std.specs.Prelude.{IsTrue, slice_get, ◌==◌, if◌then◌else◌}
+use Rattle.std.proofs.Common.{◌≡◌, ◌⊎◌, ℕ, zero, suc, ◌<◌, ◌≤◌, Bool, true, false, not, ◌&&◌, ◌||◌, List, [], ◌∷◌, map, length, Option, Some, None, refl, sym, ap, ap₂, subst, ◌∙◌, ⊎_elim, arith}
+use Rattle.std.specs.Prelude.{slice_get, ◌==◌, if◌then◌else◌}
 use Rattle.std.specs.List.{list_any, list_all}
-use Rattle.std.proofs.lemmas.Bool.{cases_Bool, cases_lt, false≢true}
+use Rattle.std.proofs.lemmas.Bool.{cases_Bool, cases_lt}
 use Rattle.tel_base.specs.Members.{In}
 use Rattle.tel_rule.specs.declared.formulas.Atom.{Atom}
 use Rattle.tel_rule.specs.declared.formulas.UnaryOp.{UnaryOp}
@@ -31,7 +31,7 @@ use Rattle.instance_build.specs.Guarded.{is_guarded_formula, is_guarded_item, is
 use Rattle.rule_binding.specs.Binding.{Vars, has, equations_of, row_vars, body_of, bound_by, IsFirstMissing, IsFirstUnbound}
 use Rattle.rule_binding.proofs.Settings.{exist}
 use Rattle.rule_check.specs.declared.faults.CheckFault.TheVariants as causes
-use Rattle.rule_check.specs.Causes.{has_arrow, layer_has_arrow, any_holds, item_has_arrow, literal_has_arrow, rule_has_arrow, has_bare_arrow, HasNoCause, IsSound}
+use Rattle.rule_check.specs.Causes.{has_arrow, layer_has_arrow, any_holds, item_has_arrow, literal_has_arrow, rule_has_arrow, has_bare_arrow, HasNoCause}
 use Rattle.rule_check.proofs.Kept.{sound-kept}
 use Rattle.checked_programs.specs.Laws.{is_guarded_kind, IsBoundAndGuarded, SoundProgramsAreBound, ReplacedAreSound}
 

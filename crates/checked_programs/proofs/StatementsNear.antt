@@ -1,30 +1,25 @@
 -- Statements as they are read speak of what is known then.
-use Rattle.std.proofs.Common.{◌≡◌, ◌⊎◌, inl, inr, ℕ, zero, suc, Bool, List, [], ◌∷◌, ◌++◌, map, Option, Some, None, refl, sym, ap, subst, ◌∙◌}
+use Rattle.std.proofs.Common.{◌≡◌, ◌⊎◌, inl, inr, ℕ, suc, Bool, List, [], ◌∷◌, ◌++◌, Option, Some, None, refl, sym, subst}
 use Rattle.std.specs.List.{flat_map}
 use Rattle.std.specs.Option.{option_map}
 use Rattle.tel_base.specs.Members.{In}
 use Rattle.tel_base.proofs.Members.{In-append_left}
 use Rattle.tel_term.specs.declared.exprs.Expr.{Expr}
-use Rattle.tel_rule.specs.declared.formulas.Atom.{Atom}
 use Rattle.tel_rule.specs.declared.statements.Arg.{Arg}
 use Rattle.tel_rule.specs.declared.statements.Arg.TheVariants as args
 use Rattle.tel_rule.specs.declared.statements.Fact.{Fact}
 use Rattle.tel_rule.specs.declared.statements.Head.{Head}
 use Rattle.tel_rule.specs.declared.statements.Head.TheVariants as heads
 use Rattle.tel_rule.specs.declared.statements.LitItem.{LitItem}
-use Rattle.tel_rule.specs.declared.statements.LitItem.TheVariants as items
 use Rattle.tel_rule.specs.declared.statements.Literal.{Literal}
-use Rattle.tel_rule.specs.declared.statements.Kind.{Kind}
-use Rattle.tel_rule.specs.declared.statements.Kind.TheVariants as kinds
-use Rattle.tel_rule.specs.declared.statements.Signature.{Signature}
-use Rattle.formula_syntax.specs.Points.{Word, Known, Grammar}
+use Rattle.formula_syntax.specs.Points.{Known}
 use Rattle.formula_syntax.specs.Senses.{sense}
-use Rattle.formula_syntax.specs.Grammar.{is_sign, name_of, SignRead, IsSign, IsExpr, IsAtom, IsFormula, signed, behind_all, it}
-use Rattle.grammar_laws.specs.Shapes.{One, Made, Either, After}
+use Rattle.formula_syntax.specs.Grammar.{is_sign, name_of, SignRead, IsSign, IsExpr, signed, behind_all}
+use Rattle.grammar_laws.specs.Shapes.{One}
 use Rattle.grammar_laws.specs.Productions.{Production, means}
 use Rattle.part_syntax.specs.Grammar as grammar
-use Rattle.part_syntax.specs.Grammar.{Terminal, AMark, ATel, AName, APart, AnArity, ASeparator, ARelation, WordOf, word, is_tel, part_of, arity_of, is_separator, relation_of, Thing, ASign, AnExpr, AnAtomItem, AnAtom, AFormula, APlain, IsThing, Item, InPart, Says, IsComparison, IsAtomItem, IsPlain, IsItem, IsFactOrRule}
-use Rattle.live_instances.specs.Instances.{item_exprs, head_exprs, rule_exprs}
+use Rattle.part_syntax.specs.Grammar.{Terminal, AMark, ATel, AName, APart, AnArity, ASeparator, ARelation, WordOf, word, is_tel, part_of, arity_of, is_separator, relation_of, Thing, ASign, AnExpr, AnAtomItem, AnAtom, AFormula, APlain, IsThing, Item, InPart, Says, IsComparison, IsAtomItem, IsItem, IsFactOrRule}
+use Rattle.live_instances.specs.Instances.{item_exprs, head_exprs}
 use Rattle.rule_plans.specs.Within.{arg_exprs, tuple_exprs, kind_exprs}
 use Rattle.checked_programs.proofs.Holding.{OfMade, OfEach, OfMaybe, Holds, Gives, Stays, either-gives, gives-it}
 use Rattle.checked_programs.proofs.Nearness.{Near, Later, later-now, later-then, near-stays, leaf-gives}

@@ -1,6 +1,5 @@
 -- The statements of texts speak of the terms of the program.
-use Rattle.std.proofs.Common.{◌≡◌, ◌⊎◌, inl, inr, ℕ, ◌+◌, ◌<◌, ◌≤◌, List, [], ◌∷◌, ◌++◌, length, refl, sym, ap, subst, ◌∙◌, ⊎_elim, arith}
-use Rattle.std.specs.Prelude.{IsTrue}
+use Rattle.std.proofs.Common.{◌≡◌, ◌⊎◌, inl, inr, ℕ, ◌+◌, ◌≤◌, List, [], ◌∷◌, length, refl, sym, subst, ⊎_elim, arith}
 use Rattle.tel_base.specs.Members.{In}
 use Rattle.tel_base.proofs.Members.{In-append_cases}
 use Rattle.tel_term.specs.declared.terms.Term.{Term}
@@ -8,15 +7,13 @@ use Rattle.tel_term.specs.declared.exprs.Expr.{Expr}
 use Rattle.tel_rule.specs.declared.parts.Part.{Part}
 use Rattle.tel_rule.specs.declared.parts.Part.TheVariants as parts
 use Rattle.tel_rule.specs.declared.statements.Statement.{Statement}
-use Rattle.tel_rule.specs.declared.statements.Program.{Program}
 use Rattle.formula_syntax.specs.Points.{Known, Point}
 use Rattle.grammar_laws.specs.Points.{at}
 use Rattle.grammar_laws.specs.Shapes.{Each}
-use Rattle.part_syntax.specs.Grammar.{Stated, IsStated, Item, InPart, Says, IsText, statements_in, said_in, part_behind, afresh}
-use Rattle.part_syntax.specs.Programs.{ReadTexts, IsProgram, levels, unknown}
-use Rattle.rule_plans.specs.Within.{IsWithin, kind_exprs, StatementsAreWithin}
+use Rattle.part_syntax.specs.Grammar.{Stated, IsStated, Item, InPart, Says, statements_in, said_in, part_behind, afresh}
+use Rattle.part_syntax.specs.Programs.{ReadTexts, levels, unknown}
+use Rattle.rule_plans.specs.Within.{IsWithin, kind_exprs}
 use Rattle.checked_programs.specs.Laws.{ProgramsAreWithin}
-use Rattle.checked_programs.proofs.Nearness.{Later, near-stays}
 use Rattle.checked_programs.proofs.Expressions.{EachNear, each-near-stays}
 use Rattle.checked_programs.proofs.StatementsNear.{StatementNear, kind_of, item-gives}
 
