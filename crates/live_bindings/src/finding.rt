@@ -49,8 +49,17 @@ pub fn find_live_bindings(
     ensures large { IfErr result (λ fault. IfLarge fault ((statements : List Statement) (rows : Rows) → IsPlanned tables.now symbols.now steps.now places vars head.now body.now statements rows → AreMore statements symbols.now vars head.now body.now most)) }
 {
     let env = zeros(alloc, places)?;
-    let test = MakesInstance { vars, head, body };
-    let mut live = search(alloc, tables, symbols, steps, env, vars, &test, most + 1)?;
+    let mut test = MakesInstance { vars, head, body };
+    let mut live = search(
+        alloc,
+        tables,
+        symbols,
+        steps,
+        env,
+        vars,
+        &mut test,
+        most + 1,
+    )?;
     if live.len() > most {
         return Err(LiveFault::Large);
     }

@@ -21,7 +21,7 @@ impl BindingTest for MakesInstance<'_> {
 
     ghost passes = { λ test symbols env. makes_instance symbols test.head.now test.body.now (take test.vars env) };
 
-    fn passes(&self, symbols: &Symbols, env: &[Value]) -> bool {
+    fn passes(&mut self, symbols: &Symbols, env: &[Value]) -> bool {
         makes_instance(symbols, self.head, self.body, &env[..self.vars])
     }
 }

@@ -1,5 +1,5 @@
 //! The search: depth first, over a stack of its own, with one list of values.
-ghost use Rattle.std.specs.Prelude.{◌≡◌, ◌∷◌, [], ◌++◌, ◌<◌, ◌≤◌, List, false, true, map, take, filter, length, replicate, slice_get, Some, None, IfOk, OnOk};
+ghost use Rattle.std.specs.Prelude.{◌≡◌, ℕ, ◌∷◌, [], ◌++◌, ◌<◌, ◌≤◌, List, false, true, map, take, filter, length, replicate, slice_get, Some, None, IfOk, OnOk};
 ghost use Rattle.std.specs.List.{All};
 ghost use Rattle.std.specs.Option.{option_copied};
 ghost use Rattle.tel_term.specs.Arithmetic.{expr_value};
@@ -210,13 +210,15 @@ fn keep<T: BindingTest>(
     symbols: &Symbols,
     env: &[Value],
     vars: usize,
-    test: &T,
+    test: &mut T,
     found: &mut Vec<Items<Value>>,
 ) -> Result<(), Memory>
-    requires test { T.can_test test.now symbols.now (length env.now) }
+    requires test { T.can_test test.old symbols.now (length env.now) }
     requires env { AreTerms symbols.now env.now }
     requires vars { vars ≤ length env.now }
-    ensures { OnOk result (found.new.items ≡ found.old.items ++ kept (T.passes test.now symbols.now) vars (env.now ∷ [])) }
+    ensures kept { OnOk result (found.new.items ≡ found.old.items ++ kept (T.passes test.old symbols.now) vars (env.now ∷ [])) }
+    ensures same { T.passes test.new ≡ T.passes test.old }
+    ensures can { (terms : List Term) (places : ℕ) → T.can_test test.old terms places → T.can_test test.new terms places }
 {
     if !test.passes(symbols, env) {
         return Ok(());
@@ -234,7 +236,7 @@ pub fn search<T: BindingTest>(
     steps: &[Step<'_>],
     env: Items<Value>,
     vars: usize,
-    test: &T,
+    test: &mut T,
     most: usize,
 ) -> Result<Vec<Items<Value>>, Memory>
     requires plan { IsPlan (replicate (length env) false) (plan_of tables.now symbols.now steps.now) }
@@ -242,8 +244,8 @@ pub fn search<T: BindingTest>(
     requires rows { RowsHaveTerms symbols.now tables.now }
     requires env { AreTerms symbols.now env }
     requires vars { vars ≤ length env }
-    requires test { T.can_test test.now symbols.now (length env) }
-    ensures { IfOk result (λ found. found.items ≡ map (take vars) (take most (filter (T.passes test.now symbols.now) (answers (plan_of tables.now symbols.now steps.now) env)))) }
+    requires test { T.can_test test.old symbols.now (length env) }
+    ensures { IfOk result (λ found. found.items ≡ map (take vars) (take most (filter (T.passes test.old symbols.now) (answers (plan_of tables.now symbols.now steps.now) env)))) }
 {
     let mut env = env;
     let mut found = Vec::new(alloc);

@@ -1,5 +1,6 @@
-use Rattle.std.proofs.Common.{◌≤◌, ℕ, List, ◌∷◌, [], ◌++◌, replicate, false, subst, sym, ap, ◌∙◌, arith}
+use Rattle.std.proofs.Common.{◌≤◌, ℕ, Bool, List, ◌∷◌, [], ◌++◌, replicate, false, subst, sym, ap, ◌∙◌, arith}
 use Rattle.std.proofs.lemmas.List.{length-map}
+use Rattle.tel_term.specs.declared.terms.Term.{Term}
 use Rattle.tel_term.specs.declared.terms.Value.{Value}
 use Rattle.join_plans.specs.Join.{answers, IsPlan}
 use Rattle.plan_search.specs.Steps.{step_of, plan_of}
@@ -24,6 +25,8 @@ walking-preserved-in-Continue-branch-2 g c = record {
   few = c.walking.invariant.few;
   long = sym c.in_ok-turn.ensures.turns.turned.stays.long ∙ c.walking.invariant.long;
   terms = c.in_ok-turn.ensures.env;
+  same = c.walking.invariant.same;
+  can = c.walking.invariant.can;
   rise = turn_rise (plan_of c.args.tables.now c.args.symbols.now c.args.steps.now) (g.T.BindingTest.passes c.args.test.now c.args.symbols.now) c.args.vars c.walking.stack c.pop.new.self c.turn.new.stack c.in-Some.frame c.walking.env c.turn.new.env c.in-Some.ensures c.walking.invariant.rise c.in_ok-turn.ensures.turns;
 }
 
@@ -32,7 +35,8 @@ walking-smaller g c = end_less (plan_of c.args.tables.now c.args.symbols.now c.a
 
 pub walking-preserved : goal.walking-preserved
 walking-preserved g c =
-    let put = c.in_ok-keep.ensures ∙ ap (λ (env : List Value). c.walking.found.items ++ kept (g.T.BindingTest.passes c.args.test.now c.args.symbols.now) c.args.vars (env ∷ [])) c.as_slice-else-frame-steps.ensures in
+    let same = ap (λ (passes : List Term → List Value → Bool). passes c.args.symbols.now) c.walking.invariant.same in
+    let put = c.in_ok-keep.ensures.kept ∙ ap (λ (passes : List Value → Bool). c.walking.found.items ++ kept passes c.args.vars (c.as_slice-else-frame-steps.result.now ∷ [])) same ∙ ap (λ (env : List Value). c.walking.found.items ++ kept (g.T.BindingTest.passes c.args.test.now c.args.symbols.now) c.args.vars (env ∷ [])) c.as_slice-else-frame-steps.ensures in
     record {
       whole =
           end_whole (plan_of c.args.tables.now c.args.symbols.now c.args.steps.now) (g.T.BindingTest.passes c.args.test.now c.args.symbols.now) c.args.vars c.walking.stack c.pop.new.self c.in-Some.frame c.walking.env c.walking.found.items (kept (g.T.BindingTest.passes c.args.test.now c.args.symbols.now) c.args.vars (answers (plan_of c.args.tables.now c.args.symbols.now c.args.steps.now) c.args.env)) c.keep.new.found.items
@@ -41,6 +45,8 @@ walking-preserved g c =
       few = one_kept (g.T.BindingTest.passes c.args.test.now c.args.symbols.now) c.args.vars c.args.most c.walking.env c.walking.found.items c.keep.new.found.items (omega (arith, c.len.ensures, c.walking.found.ok.0, c.if-len-most.false)) put;
       long = c.walking.invariant.long;
       terms = c.walking.invariant.terms;
+      same = c.in_ok-keep.ensures.same ∙ c.walking.invariant.same;
+      can = λ terms places can. c.in_ok-keep.ensures.can terms places (c.walking.invariant.can terms places can);
       rise = end_rise (plan_of c.args.tables.now c.args.symbols.now c.args.steps.now) (g.T.BindingTest.passes c.args.test.now c.args.symbols.now) c.args.vars c.walking.stack c.pop.new.self c.in-Some.frame c.in-Some.ensures c.walking.invariant.rise;
     }
 
