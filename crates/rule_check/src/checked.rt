@@ -36,6 +36,16 @@ impl Checked {
         &self.program
     }
 
+    /// The program alone, with its constants replaced by their values.
+    pub fn into_program(self) -> Program
+        ensures program { result ≡ self.program }
+        ensures checked { ∥ IsCheckedProgram result ∥₁ }
+        ensures sound { IsSound result }
+    {
+        let Checked { program, .. } = self;
+        program
+    }
+
     /// Whether a predicate is a table of the program.
     pub fn is_table(&self, predicate: &Signature) -> bool
         ensures { result ≡ is_table self.now.program.statements predicate.now }

@@ -13,3 +13,4 @@ mod statements;
 pub use checked::{Checked, check};
 pub use faults::CheckFault;
 pub use laws::{one_first_cause, some_outcome};
+pub use names::key_of;
