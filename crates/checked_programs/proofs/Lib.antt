@@ -7,3 +7,6 @@ pub mod Texts
 pub mod Replacing
 pub mod Sound
 pub mod FewNots
+pub mod Passing
+pub mod Growing
+pub mod Ready

@@ -33,7 +33,8 @@ use Rattle.rule_binding.proofs.Settings.{exist}
 use Rattle.rule_check.specs.declared.faults.CheckFault.TheVariants as causes
 use Rattle.rule_check.specs.Causes.{has_arrow, layer_has_arrow, any_holds, item_has_arrow, literal_has_arrow, rule_has_arrow, has_bare_arrow, HasNoCause}
 use Rattle.rule_check.proofs.Kept.{sound-kept}
-use Rattle.checked_programs.specs.Laws.{is_guarded_kind, IsBoundAndGuarded, SoundProgramsAreBound, ReplacedAreSound}
+use Rattle.program_theory.specs.Templates.{is_guarded_kind}
+use Rattle.checked_programs.specs.Laws.{IsBoundAndGuarded, SoundProgramsAreBound, ReplacedAreSound}
 
 -- ---- arrows
 

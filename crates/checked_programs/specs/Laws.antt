@@ -1,18 +1,17 @@
 -- What is known of programs as they are read and checked.
-use Rattle.std.specs.Prelude.{ℕ, Bool, true, List, None, IsTrue}
+use Rattle.std.specs.Prelude.{ℕ, ◌<◌, ◌^◌, List, length, None, IsTrue}
 use Rattle.tel_base.specs.Members.{In}
-use Rattle.tel_rule.specs.declared.statements.Kind.{Kind}
-use Rattle.tel_rule.specs.declared.statements.Kind.TheVariants as kinds
+use Rattle.tel_term.specs.Symbols.{IsTable}
 use Rattle.tel_rule.specs.declared.statements.Statement.{Statement}
 use Rattle.tel_rule.specs.declared.statements.Program.{Program}
 use Rattle.tel_semantics.specs.Tables.{is_table}
-use Rattle.instance_build.specs.Guarded.{is_guarded_body}
 use Rattle.rule_binding.specs.Binding.{IsFirstUnbound}
 use Rattle.rule_constants.specs.Replaced.{IsReplaced}
 use Rattle.rule_plans.specs.Within.{StatementsAreWithin}
-use Rattle.program_theory.specs.Templates.{HasFewNots}
+use Rattle.program_theory.specs.Templates.{HasFewNots, is_guarded_kind}
+use Rattle.program_theory.specs.Ready.{IsReadable, IsReady}
 use Rattle.rule_check.specs.Causes.{IsSound}
-use Rattle.part_syntax.specs.Programs.{IsProgram}
+use Rattle.part_syntax.specs.Programs.{IsProgram, total_bytes}
 
 -- ---- terms
 
@@ -33,13 +32,6 @@ ReplacedHaveFewNots = (program replaced : Program) → IsReplaced program replac
 
 -- ---- no cause
 
--- each way from a positive literal of a rule with a head down to an arrow passes a `~`
-abbrev pub is_guarded_kind : Kind → Bool
-is_guarded_kind (kinds.Rule head body) = is_guarded_body head body
-is_guarded_kind (kinds.Facts fact) = true
-is_guarded_kind (kinds.Const name value) = true
-is_guarded_kind (kinds.Show shown) = true
-
 -- the variables of a statement are bound, and its arrows are guarded
 pub record IsBoundAndGuarded (program : Program) (statement : Statement) : Type 0 where
   pub bound : IsFirstUnbound (is_table program.statements) statement None
@@ -52,3 +44,29 @@ SoundProgramsAreBound = (program : Program) → IsSound program → (statement :
 -- and none does where its constants are replaced
 abbrev pub ReplacedAreSound : Type 0
 ReplacedAreSound = (program replaced : Program) → IsReplaced program replaced → IsSound program → IsSound replaced
+
+-- ---- symbols and statements
+
+-- the symbols of a program are a table: it has at most as many as its texts have bytes
+abbrev pub ProgramsHaveTables : Type 0
+ProgramsHaveTables = (texts : List (List ℕ)) (program : Program) → IsProgram texts program → total_bytes texts < 2 ^ 32 → IsTable program.symbols
+
+abbrev pub ReplacedHaveTables : Type 0
+ReplacedHaveTables = (program replaced : Program) → IsReplaced program replaced → IsTable program.symbols → IsTable replaced.symbols
+
+-- it has at most as many statements, too
+abbrev pub ProgramsHaveFewStatements : Type 0
+ProgramsHaveFewStatements = (texts : List (List ℕ)) (program : Program) → IsProgram texts program → total_bytes texts < 2 ^ 32 → length program.statements < 2 ^ 32
+
+abbrev pub ReplacedHaveFewStatements : Type 0
+ReplacedHaveFewStatements = (program replaced : Program) → IsReplaced program replaced → length program.statements < 2 ^ 32 → length replaced.statements < 2 ^ 32
+
+-- ---- what is known in all
+
+-- the program that texts of fewer than 2^32 bytes are is such as a check asks for
+abbrev pub ProgramsAreReadable : Type 0
+ProgramsAreReadable = (texts : List (List ℕ)) (program : Program) → IsProgram texts program → total_bytes texts < 2 ^ 32 → IsReadable program
+
+-- and where no cause stands in it, it can be instantiated with its constants replaced
+abbrev pub CheckedProgramsAreReady : Type 0
+CheckedProgramsAreReady = (program replaced : Program) → IsReadable program → IsSound program → IsReplaced program replaced → IsReady replaced

@@ -1,4 +1,5 @@
 pub mod Instances
 pub mod Theory
 pub mod Templates
+pub mod Ready
 pub mod Laws

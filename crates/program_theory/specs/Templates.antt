@@ -17,6 +17,7 @@ use Rattle.tel_rule.specs.declared.ground.Instance.{Instance}
 use Rattle.tel_rule.specs.declared.ground.GroundHead.TheVariants as heads
 use Rattle.tel_rule.specs.declared.ground.Show.TheVariants as shows
 use Rattle.tel_rule.specs.Ground.{Ground}
+use Rattle.instance_build.specs.Guarded.{is_guarded_body}
 use Rattle.instance_build.specs.Instances.{Numbered, in_row, ground_rule}
 use Rattle.instance_build.specs.Laws.{have_few_nots}
 use Rattle.theory_lists.specs.Atoms.{TermAtom, same_atom}
@@ -67,6 +68,13 @@ has_few_nots (kinds.Show shown) = true
 
 abbrev pub HasFewNots : Program → Type 0
 HasFewNots program = IsTrue (list_all (λ (statement : Statement). has_few_nots statement.kind) program.statements)
+
+-- each way from a positive literal of a rule with a head down to an arrow passes a `~`
+abbrev pub is_guarded_kind : Kind → Bool
+is_guarded_kind (kinds.Rule head body) = is_guarded_body head body
+is_guarded_kind (kinds.Facts fact) = true
+is_guarded_kind (kinds.Const name value) = true
+is_guarded_kind (kinds.Show shown) = true
 
 -- the symbols are those of the program, and behind them others
 abbrev pub Extends : List Term → List Term → Type 0
