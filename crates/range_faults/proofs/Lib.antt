@@ -2,3 +2,13 @@ pub mod Settled
 pub mod Stopping
 pub mod Agreement
 pub mod Found
+pub mod Pushed
+pub mod FirstFaults
+pub mod RowGoals
+pub mod Operated
+pub mod Parts
+pub mod Planned
+pub mod Searched
+pub mod Tested
+pub mod Ruled
+pub mod Firsts
