@@ -1,0 +1,4 @@
+pub mod Rows
+pub mod Bindings
+pub mod Firsts
+pub mod Leaving
