@@ -6,4 +6,5 @@ pub mod Held
 pub mod Counted
 pub mod Terms
 pub mod Steps
+pub mod Pushed
 pub mod Examples

@@ -102,7 +102,7 @@ module _ (symbols : List Term) where
       subst (λ (r : List Value). list_all (is_value symbols) r ≡ true) rest.2
       (and_from (is_value symbols first.0) (list_all (is_value symbols) rest.0) (all here (inl refl) first.0 first.1) (chosen-terms more rest.0 (λ list later. all list (inr later)) rest.1))
 
-  tuple-terms : (count : ℕ) (tuple : List Arg) (row : List Value) → AreWithin symbols count (tuple_exprs tuple) → In row (tuple_rows tuple) → list_all (is_value symbols) row ≡ true
+  pub tuple-terms : (count : ℕ) (tuple : List Arg) (row : List Value) → AreWithin symbols count (tuple_exprs tuple) → In row (tuple_rows tuple) → list_all (is_value symbols) row ≡ true
   tuple-terms count tuple row within there = chosen-terms (map arg_values tuple) row lists there
     where
       lists : (list : List Value) → In list (map arg_values tuple) → AllTerms list

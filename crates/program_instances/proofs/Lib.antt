@@ -1,0 +1,10 @@
+pub mod Named
+pub mod Added
+pub mod Counts
+pub mod Ranged
+pub mod SameCount
+pub mod Fronts
+pub mod Costs
+pub mod Bounds
+pub mod Whole
+pub mod Turns
