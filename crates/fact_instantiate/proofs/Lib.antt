@@ -1,0 +1,6 @@
+pub mod Arranged
+pub mod PlacesCounted
+pub mod RowSteps
+pub mod SameInstances
+pub mod Stood
+pub mod Templated
