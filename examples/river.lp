@@ -1,37 +1,24 @@
-% A farmer takes a fox, a goose and a sack of beans over a river, one at a time. Each atom is true on the near bank.
+% A farmer takes a fox, a goose and a sack of beans over a river, one at a time.
+#program always.
+item(beans;fox;goose).
+being(farmer;beans;fox;goose).
+bank(east;west).
+over(east,west). over(west,east).
+eats(fox,goose). eats(goose,beans).
+% one eats the other where the farmer is away
+:- at(X,P), at(Y,P), eats(X,Y), bank(P), not at(farmer,P).
+
 #program initial.
-farmer. fox. goose. beans.
+at(X,west) :- being(X).
 
 #program dynamic.
-farmer :- not 'farmer.
-{ take_fox }. { take_goose }. { take_beans }.
-:- take_fox, take_goose.
-:- take_fox, take_beans.
-:- take_goose, take_beans.
-% only what is where the farmer is
-:- take_fox, 'fox, not 'farmer.
-:- take_fox, 'farmer, not 'fox.
-:- take_goose, 'goose, not 'farmer.
-:- take_goose, 'farmer, not 'goose.
-:- take_beans, 'beans, not 'farmer.
-:- take_beans, 'farmer, not 'beans.
-% what is taken changes the bank, and the rest stays
-fox :- 'fox, not take_fox.
-fox :- take_fox, not 'fox.
-goose :- 'goose, not take_goose.
-goose :- take_goose, not 'goose.
-beans :- 'beans, not take_beans.
-beans :- take_beans, not 'beans.
-
-#program always.
-% the fox eats the goose, and the goose the beans, where the farmer is away
-:- fox, goose, not farmer.
-:- farmer, not fox, not goose.
-:- goose, beans, not farmer.
-:- farmer, not goose, not beans.
+% the farmer crosses at every step, alone or with one item from his bank
+{ take(X) } :- item(X).
+:- take(X), take(Y), item(X), item(Y), X < Y.
+:- take(X), item(X), 'at(farmer,P), bank(P), not 'at(X,P).
+at(farmer,Q) :- 'at(farmer,P), over(P,Q).
+at(X,Q) :- take(X), item(X), 'at(X,P), over(P,Q).
+at(X,P) :- 'at(X,P), item(X), bank(P), not take(X).
 
 #program final.
-:- farmer.
-:- fox.
-:- goose.
-:- beans.
+:- at(X,west), being(X).

@@ -1,7 +1,7 @@
 //! The top call: from the words to the printed bytes.
 ghost use Rattle.std.specs.Prelude.{◌≡◌, ℕ, ◌<◌, ◌≤◌, List, [], ◌∷◌, Option, length, map, IsTrue, Some, None};
 ghost use Rattle.tel_base.specs.Counts.{Rose, Stands};
-ghost use Rattle.tel_rule.specs.declared.statements.Program.{Program};
+ghost use Rattle.theory_lists.specs.Theories.{ProgramTheory};
 ghost use Rattle.tel_settings.specs.declared.fields.Settings.{Settings};
 ghost use Rattle.tel_settings.specs.Command.{settings_of, IsWithinLimits};
 ghost use Rattle.text_answer.specs.Delivery.{code_of, Delivers, TellsFaults};
@@ -101,8 +101,8 @@ pub fn telingo<S: Source, O: Sink, L: Sink>(
     ensures answer_only { TellsOfText result → AnswersWords (words_of words.now) (S.text texts.old) result (O.bytes out.old) (O.bytes out.new) }
 
     // Accepted texts are answered by 10 or 20 where no read and no write fails, unless memory runs out.
-    ensures complete { (settings : Settings) (whole : List (List ℕ)) (program : Program) → AreTextsOf (words_of words.now) (S.text texts.old) settings whole
-        → Stands (S.faults texts.old) (S.faults texts.new) → Stands (O.faults out.old) (O.faults out.new) → IsVerdict settings whole (Accepted program)
+    ensures complete { (settings : Settings) (whole : List (List ℕ)) (theory : ProgramTheory) → AreTextsOf (words_of words.now) (S.text texts.old) settings whole
+        → Stands (S.faults texts.old) (S.faults texts.new) → Stands (O.faults out.old) (O.faults out.new) → IsVerdict settings whole (Accepted theory)
         → IsTrue (is_among (10 ∷ 20 ∷ 71 ∷ []) result) }
 
     // A read that failed is delivered as such, 66 comes only with one, and with 10, 20, 64, 65 and 69 none failed.

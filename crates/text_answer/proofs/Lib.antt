@@ -1,3 +1,4 @@
+pub mod Theories
 pub mod Verdicts
 pub mod Runs
 pub mod Capped

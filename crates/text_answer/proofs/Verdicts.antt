@@ -1,19 +1,19 @@
 -- Texts have one verdict, and a status that tells of them is the verdict's.
-use Rattle.std.proofs.Common.{◌≡◌, ◌≢◌, ℕ, ◌<◌, ◌≤◌, ◌⊎◌, IsTrue, inl, inr, Bool, true, false, cond, refl, List, [], ◌∷◌, Option, Some, None, sym, subst, nat_lt, arith}
+use Rattle.std.proofs.Common.{◌≡◌, ◌≢◌, ℕ, zero, suc, ◌*◌, ◌<◌, ◌≤◌, ◌⊎◌, max, IsTrue, inl, inr, Bool, true, false, cond, refl, List, [], ◌∷◌, Option, Some, None, sym, ◌∙◌, subst, nat_lt, arith}
 use Rattle.std.specs.List.{list_any}
 use Rattle.std.proofs.lemmas.Bool.{false≢true, cases_lt}
 use Rattle.tel_base.specs.declared.places.Place.{Place}
 use Rattle.tel_base.specs.Counts.{Rose, Stands}
 use Rattle.tel_base.proofs.Told.{stands-not-rose, front-of-nothing}
+use Rattle.tel_term.specs.declared.terms.Value.{Value}
 use Rattle.tel_rule.specs.declared.statements.Program.{Program}
+use Rattle.tel_rule.specs.Ground.{Ground, IsGround}
 use Rattle.tel_settings.specs.declared.fields.Settings.{Settings}
-use Rattle.tel_settings.specs.Run.{lengths_of}
+use Rattle.tel_settings.specs.Run.{lengths_of, run_status}
 use Rattle.part_syntax.specs.declared.fault.ReadFault.{ReadFault}
 use Rattle.part_syntax.specs.declared.fault.ReadFault.TheVariants as faults
 use Rattle.part_syntax.specs.Programs.{IsProgram, IsFirstFault, total_bytes}
 use Rattle.part_syntax.proofs.Decided.{some_verdict as program_or_fault}
-use Rattle.template_build.specs.Plain.{first_unbuilt}
-use Rattle.template_build.specs.Grounding.{template_of}
 use Rattle.text_answer.specs.Delivery.{Delivers}
 use Rattle.rule_constants.specs.Replaced.{IsReplaced}
 use Rattle.rule_check.specs.declared.faults.CheckFault.{CheckFault}
@@ -22,44 +22,75 @@ use Rattle.rule_check.specs.Causes.{IsSound, IsFirstCause}
 use Rattle.rule_constants.proofs.OneReplaced.{one_replaced}
 use Rattle.rule_check.proofs.OneCause.{one_cause, sound_none}
 use Rattle.rule_check.proofs.SomeCause.{sound_or_cause}
-use Rattle.text_answer.specs.Verdict.{largest_text, Verdict, Accepted, Refused, Faulty, Unbuilt, Large, SayChecked, SayPlain, IsVerdict, most_places, places_of, count_of, status_of, output_of, cause_line, large_line, fault_line, TellsOfText, ComesOfText, is_among, Answers}
-use Rattle.text_answer.specs.Refusals.{DeliversFault, DeliversCause, DeliversProgram, DeliversRead}
+use Rattle.fact_rows.specs.Limit.{HaveMoreRows}
+use Rattle.range_faults.specs.Ranges.{NoneLeavesRange, IsFirstLeaving}
+use Rattle.theory_lists.specs.Theories.{ProgramTheory}
+use Rattle.program_theory.specs.Instances.{instance_count}
+use Rattle.program_theory.specs.Theory.{IsTheoryOf, width_of}
+use Rattle.program_theory.specs.Templates.{HasFewNots}
+use Rattle.program_theory.specs.Ready.{IsReadable, IsReady}
+use Rattle.program_theory.proofs.OneTheory.{theories-one}
+use Rattle.program_theory.proofs.SomeInstances.{programs-instances}
+use Rattle.program_theory.proofs.SomeTheory.{instances-theory}
+use Rattle.instance_laws.proofs.Rows.{rows-instances, rows-decided}
+use Rattle.instance_laws.proofs.Leaving.{some-none, first-one}
+use Rattle.fact_instantiate.specs.declared.fault.GroundFault.TheVariants as grounding
+use Rattle.fact_instantiate.specs.Instantiated.{most_places, template_width, IsInstantiated, IsGroundFault}
+use Rattle.text_answer.specs.Running.{template_count, template_run}
+use Rattle.text_answer.specs.Shown.{first_shown}
+use Rattle.text_answer.specs.Verdict.{largest_text, Verdict, Accepted, Refused, Unbuilt, Faulty, Leaving, Large, SayUnshown, SayChecked, SayLarge, IsVerdict, places_in, count_of, status_of, output_of, cause_line, large_line, range_line, unbuilt_line, fault_line, TellsOfText, ComesOfText, is_among, Answers}
+use Rattle.text_answer.specs.Refusals.{DeliversFault, DeliversCause, DeliversProgram, DeliversUnshown, DeliversRead}
+use Rattle.checked_programs.proofs.Ready.{is_ready}
+use Rattle.text_answer.proofs.Theories.{meant, same_width, same_run, none_first, texts_readable}
 
 -- what is delivered for a program is so for what the texts say it is
+unshown-delivers : (D : ℕ → List ℕ → Type 0) (settings : Settings) (texts : List (List ℕ)) (program : Program) → ((other : Program) → IsProgram texts other → other ≡ program) → DeliversRead D settings program → (other : Program) → SayUnshown texts other → DeliversUnshown D settings other
+unshown-delivers D settings texts program only delivers other says =
+    let same = only other says.reads in
+    subst (DeliversUnshown D settings) (sym same) (delivers.unshown (subst (λ (p : Program). first_shown p.statements ≡ None) same says.none))
+
 checked-delivers : (D : ℕ → List ℕ → Type 0) (settings : Settings) (texts : List (List ℕ)) (program : Program) → ((other : Program) → IsProgram texts other → other ≡ program) → DeliversRead D settings program → (checked : Program) → SayChecked texts checked → DeliversProgram D settings checked
 checked-delivers D settings texts program only delivers checked says =
-    let same = only says.source says.reads in
-    delivers.checked (subst IsSound same says.sound) checked (subst (λ (p : Program). IsReplaced p checked) same says.replaced)
+    (unshown-delivers D settings texts program only delivers says.source says.unshown).checked says.sound checked says.replaced
 
 -- what is delivered for texts that are a program, whatever their verdict is said to be
 pub program-delivers : (D : ℕ → List ℕ → Type 0) (settings : Settings) (texts : List (List ℕ)) (program : Program) → total_bytes texts ≤ largest_text → ((other : Program) → IsProgram texts other → other ≡ program) → ((fault : ReadFault) → IsFirstFault texts fault → ⊥) → DeliversRead D settings program → (verdict : Verdict) → IsVerdict settings texts verdict → D (status_of settings verdict) (output_of settings verdict)
-program-delivers D settings texts program small only sound delivers (Accepted other) v =
-    (checked-delivers D settings texts program only delivers other v.1.checked).accepted v.1.plain v.2
+program-delivers D settings texts program small only sound delivers (Accepted theory) v =
+    let says = v.1 in
+    (checked-delivers D settings texts program only delivers says.program says.checked).accepted says.ranges says.live theory says.is says.few
 program-delivers D settings texts program small only sound delivers (Refused fault) v = absurd (sound fault v.1)
-program-delivers D settings texts program small only sound delivers (Faulty cause) v =
-    delivers.faulty cause (subst (λ (p : Program). IsFirstCause p cause) (only v.1.program v.1.reads) v.1.first)
 program-delivers D settings texts program small only sound delivers (Unbuilt place) v =
-    (checked-delivers D settings texts program only delivers v.1.program v.1.checked).unbuilt place v.1.first
+    let says = v.1 in
+    delivers.unbuilt place (subst (λ (p : Program). first_shown p.statements ≡ Some place) (only says.program says.reads) says.first)
+program-delivers D settings texts program small only sound delivers (Faulty cause) v =
+    let says = v.1 in
+    (unshown-delivers D settings texts program only delivers says.program says.unshown).faulty cause says.first
+program-delivers D settings texts program small only sound delivers (Leaving place) v =
+    let says = v.1 in
+    (checked-delivers D settings texts program only delivers says.program says.checked).leaving says.few place says.first
 program-delivers D settings texts program small only sound delivers Large (inl long) = absurd (omega arith)
 program-delivers D settings texts program small only sound delivers Large (inr v) =
-    (checked-delivers D settings texts program only delivers v.1.0 v.1.1.checked).large v.1.1.plain v.1.2
+    let says = v.1 in
+    (checked-delivers D settings texts program only delivers says.program says.checked).large says.ranges says.live says.theory says.is says.many
 
 -- the same for texts that are no program, whose first fault is this one
 pub refused-delivers : (D : ℕ → List ℕ → Type 0) (settings : Settings) (texts : List (List ℕ)) (fault : ReadFault) → total_bytes texts ≤ largest_text → ((other : ReadFault) → IsFirstFault texts other → other ≡ fault) → ((program : Program) → IsProgram texts program → ⊥) → D 65 (fault_line fault) → (verdict : Verdict) → IsVerdict settings texts verdict → D (status_of settings verdict) (output_of settings verdict)
-refused-delivers D settings texts fault small first none delivered (Accepted program) v = absurd (none v.1.checked.source v.1.checked.reads)
+refused-delivers D settings texts fault small first none delivered (Accepted theory) v = let says = v.1 in absurd (none says.checked.source says.checked.unshown.reads)
 refused-delivers D settings texts fault small first none delivered (Refused other) v =
     subst (λ (f : ReadFault). D 65 (fault_line f)) (sym (first other v.1)) delivered
-refused-delivers D settings texts fault small first none delivered (Faulty cause) v = absurd (none v.1.program v.1.reads)
-refused-delivers D settings texts fault small first none delivered (Unbuilt place) v = absurd (none v.1.checked.source v.1.checked.reads)
+refused-delivers D settings texts fault small first none delivered (Unbuilt place) v = let says = v.1 in absurd (none says.program says.reads)
+refused-delivers D settings texts fault small first none delivered (Faulty cause) v = let says = v.1 in absurd (none says.program says.unshown.reads)
+refused-delivers D settings texts fault small first none delivered (Leaving place) v = let says = v.1 in absurd (none says.checked.source says.checked.unshown.reads)
 refused-delivers D settings texts fault small first none delivered Large (inl long) = absurd (omega arith)
-refused-delivers D settings texts fault small first none delivered Large (inr v) = absurd (none v.1.1.checked.source v.1.1.checked.reads)
+refused-delivers D settings texts fault small first none delivered Large (inr v) = let says = v.1 in absurd (none says.checked.source says.checked.unshown.reads)
 
 -- and for texts that are too long
 pub long-delivers : (D : ℕ → List ℕ → Type 0) (settings : Settings) (texts : List (List ℕ)) → largest_text < total_bytes texts → D 69 large_line → (verdict : Verdict) → IsVerdict settings texts verdict → D (status_of settings verdict) (output_of settings verdict)
-long-delivers D settings texts long delivered (Accepted program) v = absurd (omega (arith, v.0))
+long-delivers D settings texts long delivered (Accepted theory) v = absurd (omega (arith, v.0))
 long-delivers D settings texts long delivered (Refused fault) v = absurd (omega (arith, v.0))
-long-delivers D settings texts long delivered (Faulty cause) v = absurd (omega (arith, v.0))
 long-delivers D settings texts long delivered (Unbuilt place) v = absurd (omega (arith, v.0))
+long-delivers D settings texts long delivered (Faulty cause) v = absurd (omega (arith, v.0))
+long-delivers D settings texts long delivered (Leaving place) v = absurd (omega (arith, v.0))
 long-delivers D settings texts long delivered Large v = delivered
 
 -- what the reader says of a fault that isn't want of memory
@@ -92,28 +123,59 @@ pub delivered-answers : (settings : Settings) (texts : List (List ℕ)) (verdict
 delivered-answers settings texts verdict code old new is (inl whole) tells = (verdict, is, whole.0, whole.1)
 delivered-answers settings texts verdict code old new is (inr cut) tells = absurd (not_cut code cut.0 tells)
 
+-- ---- verdicts of programs
+
+-- there are more places than so many where there are more instances
+many_places : (settings : Settings) (program : Program) (live : List (List (List Value))) (theory : ProgramTheory) → most_places < instance_count live → most_places < places_in settings (width_of program live theory)
+many_places settings program live theory more = above settings.imax (width_of program live theory) (omega (arith, more))
+  where
+    above : (imax width : ℕ) → most_places < width → most_places < max imax 1 * width
+    above imax width below = at_least (max imax 1) width (omega arith) below
+      where
+        at_least : (times width : ℕ) → 1 ≤ times → most_places < width → most_places < times * width
+        at_least zero width one below = absurd (omega (arith, one))
+        at_least (suc more) width one below = omega (arith, below)
+
 -- the verdict of a program in which no cause stands, and what is delivered for it
-checked_has : (D : ℕ → List ℕ → Type 0) (settings : Settings) (texts : List (List ℕ)) (program : Program) (first : Option Place) → first_unbuilt program.statements ≡ first → total_bytes texts ≤ largest_text → SayChecked texts program → DeliversProgram D settings program → (verdict : Verdict) × IsVerdict settings texts verdict × D (status_of settings verdict) (output_of settings verdict)
-checked_has D settings texts program (Some place) is small says delivers =
-    (Unbuilt place, (small, record { program = program; checked = says; first = is }), delivers.unbuilt place is)
-checked_has D settings texts program None is small says delivers =
-    let plain : SayPlain texts program = record { checked = says; plain = is } in
-    elim (cases_lt most_places (places_of settings program)) [
-      | inl many ↦ (Large, inr (small, (program, plain, many)), delivers.large is many)
-      | inr few ↦ (Accepted program, (small, plain, few), delivers.accepted is few)
+placed_has : (D : ℕ → List ℕ → Type 0) (settings : Settings) (texts : List (List ℕ)) (program : Program) → total_bytes texts ≤ largest_text → SayChecked texts program → DeliversProgram D settings program → NoneLeavesRange program.statements program.symbols → (live : List (List (List Value))) (theory : ProgramTheory) → IsTheoryOf program live theory → (verdict : Verdict) × IsVerdict settings texts verdict × D (status_of settings verdict) (output_of settings verdict)
+placed_has D settings texts program small says delivers none live theory is = elim (cases_lt most_places (places_in settings (width_of program live theory))) [
+  | inl many ↦ (Large, inr (small, record { program = program; checked = says; ranges = inr none; live = live; theory = theory; is = is; many = many }), delivers.large (inr none) live theory is many)
+  | inr few ↦ (Accepted theory, (small, record { program = program; checked = says; ranges = none; live = live; is = is; few = few }), delivers.accepted none live theory is few)
+]
+
+checked_has : (D : ℕ → List ℕ → Type 0) (settings : Settings) (texts : List (List ℕ)) (program : Program) → IsReady program → total_bytes texts ≤ largest_text → SayChecked texts program → DeliversProgram D settings program → (verdict : Verdict) × IsVerdict settings texts verdict × D (status_of settings verdict) (output_of settings verdict)
+checked_has D settings texts program ready small says delivers =
+    let live = programs-instances program ready.table in
+    let theory = instances-theory program live.0 live.1 in
+    elim (rows-decided program.statements most_places) [
+      | inl more ↦
+          let many = many_places settings program live.0 theory.0 (rows-instances program most_places live.0 more live.1) in
+          (Large, inr (small, record { program = program; checked = says; ranges = inl more; live = live.0; theory = theory.0; is = theory.1; many = many }), delivers.large (inl more) live.0 theory.0 theory.1 many)
+      | inr few ↦ elim (some-none program) [
+        | inl none ↦ placed_has D settings texts program small says delivers none live.0 theory.0 theory.1
+        | inr some ↦ (Leaving some.0, (small, record { program = program; checked = says; few = few; first = some.1 }), delivers.leaving few some.0 some.1)
+      ]
     ]
 
--- the same of a program that was read
-program_has : (D : ℕ → List ℕ → Type 0) (settings : Settings) (texts : List (List ℕ)) (program : Program) → total_bytes texts ≤ largest_text → IsProgram texts program → DeliversRead D settings program → (verdict : Verdict) × IsVerdict settings texts verdict × D (status_of settings verdict) (output_of settings verdict)
-program_has D settings texts program small reads delivers =
+-- of a program without a `#show`
+unshown_has : (D : ℕ → List ℕ → Type 0) (settings : Settings) (texts : List (List ℕ)) (program : Program) → IsReadable program → total_bytes texts ≤ largest_text → SayUnshown texts program → DeliversUnshown D settings program → (verdict : Verdict) × IsVerdict settings texts verdict × D (status_of settings verdict) (output_of settings verdict)
+unshown_has D settings texts program read small says delivers =
     elim (sound_or_cause program) [
-      | inl s ↦ checked_has D settings texts s.1.0 (first_unbuilt s.1.0.statements) refl small (record { source = program; reads = reads; sound = s.0; replaced = s.1.1 }) (delivers.checked s.0 s.1.0 s.1.1)
-      | inr c ↦ (Faulty c.0, (small, record { program = program; reads = reads; first = c.1 }), delivers.faulty c.0 c.1)
+      | inl s ↦ checked_has D settings texts s.1.0 (is_ready program s.1.0 read s.0 s.1.1) small (record { source = program; unshown = says; sound = s.0; replaced = s.1.1 }) (delivers.checked s.0 s.1.0 s.1.1)
+      | inr c ↦ (Faulty c.0, (small, record { program = program; unshown = says; first = c.1 }), delivers.faulty c.0 c.1)
     ]
 
-pub program-answers : (settings : Settings) (texts : List (List ℕ)) (program : Program) (code : ℕ) (old new : Option (List ℕ)) → total_bytes texts ≤ largest_text → IsProgram texts program → DeliversRead (λ status bytes. Delivers code status bytes old new) settings program → TellsOfText code → Answers settings texts code old new
-program-answers settings texts program code old new small reads delivers tells =
-    let has = program_has (λ status bytes. Delivers code status bytes old new) settings texts program small reads delivers in
+-- and of one that was read
+program_has : (D : ℕ → List ℕ → Type 0) (settings : Settings) (texts : List (List ℕ)) (program : Program) → IsReadable program → total_bytes texts ≤ largest_text → IsProgram texts program → DeliversRead D settings program → (verdict : Verdict) × IsVerdict settings texts verdict × D (status_of settings verdict) (output_of settings verdict)
+program_has D settings texts program read small reads delivers = by_first (first_shown program.statements) refl
+  where
+    by_first : (first : Option Place) → first_shown program.statements ≡ first → (verdict : Verdict) × IsVerdict settings texts verdict × D (status_of settings verdict) (output_of settings verdict)
+    by_first (Some place) is = (Unbuilt place, (small, record { program = program; reads = reads; first = is }), delivers.unbuilt place is)
+    by_first None is = unshown_has D settings texts program read small (record { reads = reads; none = is }) (delivers.unshown is)
+
+pub program-answers : (settings : Settings) (texts : List (List ℕ)) (program : Program) (code : ℕ) (old new : Option (List ℕ)) → IsReadable program → total_bytes texts ≤ largest_text → IsProgram texts program → DeliversRead (λ status bytes. Delivers code status bytes old new) settings program → TellsOfText code → Answers settings texts code old new
+program-answers settings texts program code old new read small reads delivers tells =
+    let has = program_has (λ status bytes. Delivers code status bytes old new) settings texts program read small reads delivers in
     delivered-answers settings texts has.0 code old new has.1 has.2 tells
 
 -- the same of texts with a fault
@@ -130,10 +192,11 @@ run_kind P true ten twenty = ten
 run_kind P false ten twenty = twenty
 
 status_kind : (settings : Settings) (verdict : Verdict) → ComesOfText (status_of settings verdict)
-status_kind settings (Accepted program) = run_kind ComesOfText (list_any (λ n. nat_lt 0 (count_of (template_of program.statements) n)) (lengths_of settings (count_of (template_of program.statements)))) refl refl
+status_kind settings (Accepted theory) = run_kind ComesOfText (list_any (λ n. nat_lt 0 (count_of theory n)) (lengths_of settings (count_of theory))) refl refl
 status_kind settings (Refused fault) = refl
-status_kind settings (Faulty cause) = refl
 status_kind settings (Unbuilt place) = refl
+status_kind settings (Faulty cause) = refl
+status_kind settings (Leaving place) = refl
 status_kind settings Large = refl
 
 pub delivered-kind : (settings : Settings) (verdict : Verdict) (code : ℕ) (old new : Option (List ℕ)) → Delivers code (status_of settings verdict) (output_of settings verdict) old new → ComesOfText code
@@ -144,9 +207,9 @@ delivered-kind settings verdict code old new (inr cut) = cut_kind code cut.0
     cut_kind code (inl e) = subst ComesOfText (sym e) refl
     cut_kind code (inr e) = subst ComesOfText (sym e) refl
 
-pub program-kind : (settings : Settings) (texts : List (List ℕ)) (program : Program) (code : ℕ) (old new : Option (List ℕ)) → total_bytes texts ≤ largest_text → IsProgram texts program → DeliversRead (λ status bytes. Delivers code status bytes old new) settings program → ComesOfText code
-program-kind settings texts program code old new small reads delivers =
-    let has = program_has (λ status bytes. Delivers code status bytes old new) settings texts program small reads delivers in
+pub program-kind : (settings : Settings) (texts : List (List ℕ)) (program : Program) (code : ℕ) (old new : Option (List ℕ)) → IsReadable program → total_bytes texts ≤ largest_text → IsProgram texts program → DeliversRead (λ status bytes. Delivers code status bytes old new) settings program → ComesOfText code
+program-kind settings texts program code old new read small reads delivers =
+    let has = program_has (λ status bytes. Delivers code status bytes old new) settings texts program read small reads delivers in
     delivered-kind settings has.0 code old new has.2
 
 pub fault-kind : (settings : Settings) (fault : ReadFault) (code : ℕ) (old new : Option (List ℕ)) → DeliversFault fault code old new → ComesOfText code
@@ -163,54 +226,119 @@ pub kind-not_usage : (code : ℕ) → ComesOfText code → code ≡ 64 → ⊥
 kind-not_usage code kind e = false≢true (subst ComesOfText e kind)
 
 -- accepted texts are answered by their status, where no write failed and there was memory
-pub accepted-complete : (settings : Settings) (program : Program) (code : ℕ) (old new : Option (List ℕ)) (before now : ℕ) → Delivers code (status_of settings (Accepted program)) (output_of settings (Accepted program)) old new → (code ≡ 74 → Rose before now) → Stands before now → IsTrue (is_among (10 ∷ 20 ∷ 71 ∷ []) code)
-accepted-complete settings program code old new before now (inl whole) rose stands =
+pub accepted-complete : (settings : Settings) (theory : ProgramTheory) (code : ℕ) (old new : Option (List ℕ)) (before now : ℕ) → Delivers code (status_of settings (Accepted theory)) (output_of settings (Accepted theory)) old new → (code ≡ 74 → Rose before now) → Stands before now → IsTrue (is_among (10 ∷ 20 ∷ 71 ∷ []) code)
+accepted-complete settings theory code old new before now (inl whole) rose stands =
     subst (λ (n : ℕ). IsTrue (is_among (10 ∷ 20 ∷ 71 ∷ []) n)) (sym whole.0)
-    (run_kind (λ (n : ℕ). IsTrue (is_among (10 ∷ 20 ∷ 71 ∷ []) n)) (list_any (λ n. nat_lt 0 (count_of (template_of program.statements) n)) (lengths_of settings (count_of (template_of program.statements)))) refl refl)
-accepted-complete settings program code old new before now (inr cut) rose stands = elim cut.0 [
+    (run_kind (λ (n : ℕ). IsTrue (is_among (10 ∷ 20 ∷ 71 ∷ []) n)) (list_any (λ n. nat_lt 0 (count_of theory n)) (lengths_of settings (count_of theory))) refl refl)
+accepted-complete settings theory code old new before now (inr cut) rose stands = elim cut.0 [
   | inl e ↦ subst (λ (n : ℕ). IsTrue (is_among (10 ∷ 20 ∷ 71 ∷ []) n)) (sym e) refl
   | inr e ↦ absurd (stands-not-rose before now stands (rose e))
 ]
+
+-- ---- some verdict
+
+unit_program : (settings : Settings) (program : Program) → DeliversProgram (λ status bytes. Unit {0}) settings program
+unit_program settings program = record { accepted = λ _ _ _ _ _. tt; leaving = λ _ _ _. tt; large = λ _ _ _ _ _. tt }
+
+unit_read : (settings : Settings) (program : Program) → DeliversRead (λ status bytes. Unit {0}) settings program
+unit_read settings program = record { unbuilt = λ _ _. tt; unshown = λ _. record { checked = λ _ replaced _. unit_program settings replaced; faulty = λ _ _. tt } }
 
 -- texts have a verdict
 pub some_verdict : (settings : Settings) (texts : List (List ℕ)) → (verdict : Verdict) × IsVerdict settings texts verdict
 some_verdict settings texts = elim (cases_lt largest_text (total_bytes texts)) [
   | inl long ↦ (Large, inl long)
   | inr small ↦ elim (program_or_fault texts) [
-    | inl p ↦ let has = program_has (λ status bytes. Unit {0}) settings texts p.0 small p.1 (record { checked = λ _ _ _. record { accepted = λ _ _. tt; unbuilt = λ _ _. tt; large = λ _ _. tt }; faulty = λ _ _. tt }) in (has.0, has.1)
+    | inl p ↦ let has = program_has (λ status bytes. Unit {0}) settings texts p.0 (texts_readable texts p.0 small p.1) small p.1 (unit_read settings p.0) in (has.0, has.1)
     | inr f ↦ (Refused f.0, (small, f.1))
   ]
 ]
 
--- ---- what a check answers
+-- ---- what instantiating a program answers
 
-cut_all : (code : ℕ) (old new : Option (List ℕ)) (settings : Settings) (program : Program) → code ≡ 71 → new ≡ old → DeliversProgram (λ status bytes. Delivers code status bytes old new) settings program
-cut_all code old new settings program is same = record {
-  accepted = λ _ _. inr (inl is, front-of-nothing old new _ same);
-  unbuilt = λ place _. inr (inl is, front-of-nothing old new _ same);
-  large = λ _ _. inr (inl is, front-of-nothing old new _ same);
+-- nothing was printed, for want of memory
+pub cut_program : (code : ℕ) (old new : Option (List ℕ)) (settings : Settings) (program : Program) → code ≡ 71 → new ≡ old → DeliversProgram (λ status bytes. Delivers code status bytes old new) settings program
+cut_program code old new settings program is same = record {
+  accepted = λ _ live theory _ _. inr (inl is, front-of-nothing old new _ same);
+  leaving = λ _ place _. inr (inl is, front-of-nothing old new _ same);
+  large = λ _ live theory _ _. inr (inl is, front-of-nothing old new _ same);
 }
 
+-- a program with a template is answered by its run
+pub template-delivers : (D : ℕ → List ℕ → Type 0) (settings : Settings) (program : Program) (template : Ground) → HasFewNots program → IsGround template → IsInstantiated program (max settings.imax 1) template → D (run_status settings (template_count template)) (template_run settings template) → DeliversProgram D settings program
+template-delivers D settings program template nots ground made runs = record {
+  accepted = λ none live theory is few. same_run D settings template theory made.is.show ground (meant program (max settings.imax 1) template live theory nots ground made is) runs;
+  leaving = λ few place first. absurd (none_first program.statements program.symbols place made.ranges first);
+  large = λ ranges live theory is many.
+      let width = same_width program (max settings.imax 1) template live theory nots ground made is in
+      absurd (not_both (places_in settings (width_of program live theory)) (subst (λ (n : ℕ). places_in settings n ≤ most_places) width made.few) many);
+}
+  where
+    not_both : (places : ℕ) → places ≤ most_places → most_places < places → ⊥
+    not_both places few many = omega (arith, few, many)
+
+-- one with a statement that leaves the range is answered by that
+pub range-delivers : (D : ℕ → List ℕ → Type 0) (settings : Settings) (program : Program) (greatest : ℕ) (place : Place) → IsGroundFault program greatest (grounding.Range place) → D 65 (range_line place) → DeliversProgram D settings program
+range-delivers D settings program greatest place fault delivered = record {
+  accepted = λ none live theory is few. absurd (none_first program.statements program.symbols place none fault.1);
+  leaving = λ few other first. subst (λ (p : Place). D 65 (range_line p)) (first-one program.statements program.symbols place other fault.1 first) delivered;
+  large = λ ranges live theory is many. absurd (elim ranges [
+    | inl more ↦ fault.0 more
+    | inr none ↦ none_first program.statements program.symbols place none fault.1
+  ]);
+}
+
+-- and one with too many places by that
+pub large-delivers : (D : ℕ → List ℕ → Type 0) (settings : Settings) (program : Program) → IsGroundFault program (max settings.imax 1) grounding.Large → D 69 large_line → DeliversProgram D settings program
+large-delivers D settings program fault delivered = record {
+  accepted = λ none live theory is few. absurd (not_both (places_in settings (width_of program live theory)) few (fault.1 live theory is));
+  leaving = λ few place first. absurd (elim fault.0 [
+    | inl more ↦ few more
+    | inr none ↦ none_first program.statements program.symbols place none first
+  ]);
+  large = λ ranges live theory is many. delivered;
+}
+  where
+    not_both : (places : ℕ) → places ≤ most_places → most_places < places → ⊥
+    not_both places few many = omega (arith, few, many)
+
+-- ---- what a check answers
+
 -- a program that passes is answered as what it is with its constants replaced
-pub passed-delivers : (D : ℕ → List ℕ → Type 0) (settings : Settings) (program checked : Program) → IsSound program → IsReplaced program checked → DeliversProgram D settings checked → DeliversRead D settings program
+pub passed-delivers : (D : ℕ → List ℕ → Type 0) (settings : Settings) (program checked : Program) → IsSound program → IsReplaced program checked → DeliversProgram D settings checked → DeliversUnshown D settings program
 passed-delivers D settings program checked sound replaced delivers = record {
   checked = λ _ other says. subst (DeliversProgram D settings) (one_replaced program checked other replaced says) delivers;
   faulty = λ cause first. absurd (sound_none program cause sound first);
 }
 
-first_delivers : (settings : Settings) (program : Program) (cause : CheckFault) (code : ℕ) (old new : Option (List ℕ)) → IsFirstCause program cause → Delivers code 65 (cause_line cause) old new → DeliversRead (λ status bytes. Delivers code status bytes old new) settings program
+first_delivers : (settings : Settings) (program : Program) (cause : CheckFault) (code : ℕ) (old new : Option (List ℕ)) → IsFirstCause program cause → Delivers code 65 (cause_line cause) old new → DeliversUnshown (λ status bytes. Delivers code status bytes old new) settings program
 first_delivers settings program cause code old new is delivered = record {
   checked = λ sound other says. absurd (sound_none program cause sound is);
   faulty = λ other first. subst (λ (c : CheckFault). Delivers code 65 (cause_line c) old new) (one_cause program cause other is first) delivered;
 }
 
 -- and one that doesn't is answered by its first cause, unless memory runs out
-pub cause-delivers : (settings : Settings) (program : Program) (cause : CheckFault) (code : ℕ) (old new : Option (List ℕ)) → (cause ≢ causes.Memory → IsFirstCause program cause) → DeliversCause cause code old new → DeliversRead (λ status bytes. Delivers code status bytes old new) settings program
+pub cause-delivers : (settings : Settings) (program : Program) (cause : CheckFault) (code : ℕ) (old new : Option (List ℕ)) → (cause ≢ causes.Memory → IsFirstCause program cause) → DeliversCause cause code old new → DeliversUnshown (λ status bytes. Delivers code status bytes old new) settings program
 cause-delivers settings program causes.Memory code old new of delivered = record {
-  checked = λ sound other says. cut_all code old new settings other delivered.0 delivered.1;
+  checked = λ sound other says. cut_program code old new settings other delivered.0 delivered.1;
   faulty = λ other first. inr (inl delivered.0, front-of-nothing old new _ delivered.1);
 }
 cause-delivers settings program (causes.Unbound place name) code old new of delivered = first_delivers settings program (causes.Unbound place name) code old new (of (λ e. cc)) delivered
 cause-delivers settings program (causes.Arrow place) code old new of delivered = first_delivers settings program (causes.Arrow place) code old new (of (λ e. cc)) delivered
 cause-delivers settings program (causes.Prime place) code old new of delivered = first_delivers settings program (causes.Prime place) code old new (of (λ e. cc)) delivered
 cause-delivers settings program (causes.Const place name) code old new of delivered = first_delivers settings program (causes.Const place name) code old new (of (λ e. cc)) delivered
+
+-- ---- what is read
+
+-- a program with a `#show` is answered by that
+pub shown-delivers : (D : ℕ → List ℕ → Type 0) (settings : Settings) (program : Program) (place : Place) → first_shown program.statements ≡ Some place → D 65 (unbuilt_line place) → DeliversRead D settings program
+shown-delivers D settings program place is delivered = record {
+  unbuilt = λ other first. let same : place ≡ other = cc in subst (λ (p : Place). D 65 (unbuilt_line p)) same delivered;
+  unshown = λ none. let other : Some place ≡ None = sym is ∙ none in absurd (cc);
+}
+
+-- and one without as such
+pub unshown-reads : (D : ℕ → List ℕ → Type 0) (settings : Settings) (program : Program) → first_shown program.statements ≡ None → DeliversUnshown D settings program → DeliversRead D settings program
+unshown-reads D settings program is delivers = record {
+  unbuilt = λ place first. let other : None ≡ Some place = sym is ∙ first in absurd (cc);
+  unshown = λ none. delivers;
+}

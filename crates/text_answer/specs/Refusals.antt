@@ -1,18 +1,22 @@
--- What is answered for a fault of the reader, and what a fault says of a program.
-use Rattle.std.specs.Prelude.{◌≡◌, ℕ, ◌<◌, ◌≤◌, List, Option, Some, None, MatchOption}
+-- What is answered for a fault of the reader, and for a program as it is read.
+use Rattle.std.specs.Prelude.{◌≡◌, ℕ, ◌<◌, ◌≤◌, ◌⊎◌, List, Option, Some, None, MatchOption}
 use Rattle.tel_base.specs.declared.places.Place.{Place}
+use Rattle.tel_term.specs.declared.terms.Value.{Value}
 use Rattle.tel_rule.specs.declared.statements.Program.{Program}
 use Rattle.tel_settings.specs.declared.fields.Settings.{Settings}
 use Rattle.part_syntax.specs.declared.fault.ReadFault.{ReadFault}
+use Rattle.rule_constants.specs.Replaced.{IsReplaced}
 use Rattle.rule_check.specs.declared.faults.CheckFault.{CheckFault}
 use Rattle.rule_check.specs.declared.faults.CheckFault.TheVariants as causes
 use Rattle.rule_check.specs.Causes.{IsSound, IsFirstCause}
-use Rattle.rule_constants.specs.Replaced.{IsReplaced}
-use Rattle.text_answer.specs.declared.answering.PlainFault.{PlainFault}
-use Rattle.text_answer.specs.declared.answering.PlainFault.TheVariants as plain
-use Rattle.template_build.specs.Plain.{first_unbuilt}
+use Rattle.fact_rows.specs.Limit.{HaveMoreRows}
+use Rattle.range_faults.specs.Ranges.{NoneLeavesRange, IsFirstLeaving}
+use Rattle.theory_lists.specs.Theories.{ProgramTheory}
+use Rattle.program_theory.specs.Theory.{IsTheoryOf, width_of}
+use Rattle.fact_instantiate.specs.Instantiated.{most_places}
 use Rattle.text_answer.specs.Delivery.{Delivers}
-use Rattle.text_answer.specs.Verdict.{Accepted, line_at, named, cause_line, unbuilt_line, large_line, most_places, places_of, status_of, output_of}
+use Rattle.text_answer.specs.Shown.{first_shown}
+use Rattle.text_answer.specs.Verdict.{Accepted, line_at, named, cause_line, unbuilt_line, range_line, large_line, places_in, status_of, output_of}
 
 -- a fault of the reader is delivered, and for want of memory nothing is printed
 abbrev pub DeliversFault : ReadFault → ℕ → Option (List ℕ) → Option (List ℕ) → Type 0
@@ -27,20 +31,18 @@ DeliversCause (causes.Arrow place) result old new = Delivers result 65 (cause_li
 DeliversCause (causes.Prime place) result old new = Delivers result 65 (cause_line (causes.Prime place)) old new
 DeliversCause (causes.Const place name) result old new = Delivers result 65 (cause_line (causes.Const place name)) old new
 
--- what a fault says of a program: the first statement that isn't plain stands here; or all are plain, and have too many
--- places
-abbrev pub IsPlainFault : Settings → Program → PlainFault → Type 0
-IsPlainFault settings program (plain.Unbuilt place) = first_unbuilt program.statements ≡ Some place
-IsPlainFault settings program plain.Large = (first_unbuilt program.statements ≡ None) × (most_places < places_of settings program)
-IsPlainFault settings program plain.Memory = Unit {0}
-
--- what is delivered for a program without a cause
+-- what is delivered for a program without a cause: its theory's run, its first statement that leaves the range, or its size
 pub record DeliversProgram (D : ℕ → List ℕ → Type 0) (settings : Settings) (program : Program) : Type 0 where
-  pub accepted : first_unbuilt program.statements ≡ None → places_of settings program ≤ most_places → D (status_of settings (Accepted program)) (output_of settings (Accepted program))
-  pub unbuilt : (place : Place) → first_unbuilt program.statements ≡ Some place → D 65 (unbuilt_line place)
-  pub large : first_unbuilt program.statements ≡ None → most_places < places_of settings program → D 69 large_line
+  pub accepted : NoneLeavesRange program.statements program.symbols → (live : List (List (List Value))) (theory : ProgramTheory) → IsTheoryOf program live theory → places_in settings (width_of program live theory) ≤ most_places → D (status_of settings (Accepted theory)) (output_of settings (Accepted theory))
+  pub leaving : (HaveMoreRows program.statements most_places → ⊥) → (place : Place) → IsFirstLeaving program.statements program.symbols place → D 65 (range_line place)
+  pub large : HaveMoreRows program.statements most_places ⊎ NoneLeavesRange program.statements program.symbols → (live : List (List (List Value))) (theory : ProgramTheory) → IsTheoryOf program live theory → most_places < places_in settings (width_of program live theory) → D 69 large_line
 
--- what is delivered for a program as it is read: as for what it is with its constants replaced, or for its first cause
-pub record DeliversRead (D : ℕ → List ℕ → Type 0) (settings : Settings) (program : Program) : Type 0 where
+-- what is delivered for a program without a `#show`: as for what it is with its constants replaced, or for its first cause
+pub record DeliversUnshown (D : ℕ → List ℕ → Type 0) (settings : Settings) (program : Program) : Type 0 where
   pub checked : IsSound program → (replaced : Program) → IsReplaced program replaced → DeliversProgram D settings replaced
   pub faulty : (cause : CheckFault) → IsFirstCause program cause → D 65 (cause_line cause)
+
+-- what is delivered for a program as it is read
+pub record DeliversRead (D : ℕ → List ℕ → Type 0) (settings : Settings) (program : Program) : Type 0 where
+  pub unbuilt : (place : Place) → first_shown program.statements ≡ Some place → D 65 (unbuilt_line place)
+  pub unshown : first_shown program.statements ≡ None → DeliversUnshown D settings program

@@ -4,11 +4,9 @@ use Rattle.std.specs.List.{list_any, flat_map}
 use Rattle.std.specs.Option.{option_map_or}
 use Rattle.tel_base.specs.declared.places.Place.{Place}
 use Rattle.tel_base.specs.Bytes.{Appends}
+use Rattle.tel_term.specs.declared.terms.Value.{Value}
 use Rattle.tel_rule.specs.declared.statements.Program.{Program}
-use Rattle.tel_rule.specs.Ground.{Ground}
 use Rattle.tel_semantics.specs.declared.ends.How.TheVariants.{Complete}
-use Rattle.tel_semantics.specs.Equilibrium.{list_of}
-use Rattle.tel_semantics.specs.Print.{print}
 use Rattle.tel_settings.specs.declared.fields.Settings.{Settings}
 use Rattle.tel_settings.specs.Run.{lengths_of, run_status}
 use Rattle.part_syntax.specs.declared.fault.ReadFault.{ReadFault}
@@ -18,88 +16,111 @@ use Rattle.rule_constants.specs.Replaced.{IsReplaced}
 use Rattle.rule_check.specs.declared.faults.CheckFault.{CheckFault}
 use Rattle.rule_check.specs.declared.faults.CheckFault.TheVariants as causes
 use Rattle.rule_check.specs.Causes.{IsSound, IsFirstCause}
-use Rattle.template_build.specs.Plain.{first_unbuilt}
-use Rattle.template_build.specs.Grounding.{template_of}
+use Rattle.fact_rows.specs.Limit.{HaveMoreRows}
+use Rattle.range_faults.specs.Ranges.{NoneLeavesRange, IsFirstLeaving}
+use Rattle.theory_lists.specs.Theories.{ProgramTheory}
+use Rattle.theory_lists.specs.Lists.{equilibria}
+use Rattle.theory_lists.specs.Print.{print_theory}
+use Rattle.program_theory.specs.Theory.{IsTheoryOf, width_of}
+use Rattle.fact_instantiate.specs.Instantiated.{most_places}
+use Rattle.text_answer.specs.Shown.{first_shown}
 
 -- the most bytes that all texts together may have
 abbrev pub largest_text : ℕ
 largest_text = 1048576
 
--- Accepted as this program, whose constants are replaced by their values; refused for their first fault, for the first cause of a statement, for a
--- statement that isn't plain, or for their size.
+-- Accepted, with the theory that they mean; refused for their first fault, for their first `#show`, for the first cause of a statement, for the first statement that leaves
+-- the range of numbers, or for their size.
 pub data Verdict : Type 0 where
-  Accepted : Program → Verdict
+  Accepted : ProgramTheory → Verdict
   Refused : ReadFault → Verdict
-  Faulty : CheckFault → Verdict
   Unbuilt : Place → Verdict
+  Faulty : CheckFault → Verdict
+  Leaving : Place → Verdict
   Large : Verdict
 
--- the most places that all states of the greatest length may have together
-abbrev pub most_places : ℕ
-most_places = 4194304
+-- how many places all states of the greatest length have, or one state where no length is run, where a state has so many
+abbrev pub places_in : Settings → ℕ → ℕ
+places_in settings width = max settings.imax 1 * width
 
--- how many places a state of a program has: one for each atom, each node and each instance, and one for whether it is the last
-abbrev pub width_of : Ground → ℕ
-width_of program = length program.atoms + length program.nodes + length program.instances + 1
+-- the texts are a program, whose first `#show` stands here
+pub record SayUnbuilt (texts : List (List ℕ)) (place : Place) : Type 0 where
+  pub program : Program
+  pub reads : IsProgram texts program
+  pub first : first_shown program.statements ≡ Some place
 
--- how many places all states of the greatest length have, or one state where no length is run
-abbrev pub places_in : Settings → Ground → ℕ
-places_in settings program = max settings.imax 1 * width_of program
+-- the texts are a program without a `#show`
+pub record SayUnshown (texts : List (List ℕ)) (program : Program) : Type 0 where
+  pub reads : IsProgram texts program
+  pub none : first_shown program.statements ≡ None
 
-abbrev pub places_of : Settings → Program → ℕ
-places_of settings program = places_in settings (template_of program.statements)
+-- its first cause is this one
+pub record SayFaulty (texts : List (List ℕ)) (cause : CheckFault) : Type 0 where
+  pub program : Program
+  pub unshown : SayUnshown texts program
+  pub first : IsFirstCause program cause
 
--- the texts are a program in which no cause stands, and with its constants replaced it is this one
+-- or no cause stands in it, and with its constants replaced it is this one
 pub record SayChecked (texts : List (List ℕ)) (program : Program) : Type 0 where
   pub source : Program
-  pub reads : IsProgram texts source
+  pub unshown : SayUnshown texts source
   pub sound : IsSound source
   pub replaced : IsReplaced source program
 
--- and all statements are plain
-pub record SayPlain (texts : List (List ℕ)) (program : Program) : Type 0 where
-  pub checked : SayChecked texts program
-  pub plain : first_unbuilt program.statements ≡ None
-
--- the texts are a program whose first cause is this one
-pub record SayFaulty (texts : List (List ℕ)) (cause : CheckFault) : Type 0 where
-  pub program : Program
-  pub reads : IsProgram texts program
-  pub first : IsFirstCause program cause
-
--- the texts are a program in which no cause stands, and its first statement that isn't plain stands here
-pub record SayUnbuilt (texts : List (List ℕ)) (place : Place) : Type 0 where
+-- the first statement of this program that leaves the range stands here, and its tables haven't too many rows
+pub record SayLeaving (texts : List (List ℕ)) (place : Place) : Type 0 where
   pub program : Program
   pub checked : SayChecked texts program
-  pub first : first_unbuilt program.statements ≡ Some place
+  pub few : HaveMoreRows program.statements most_places → ⊥
+  pub first : IsFirstLeaving program.statements program.symbols place
 
--- The size is looked at first, then the grammar, then the causes of statements, then which statements are plain, and then the places at the
--- greatest length.
+-- its states have too many places, and its tables too many rows, or no statement leaves the range
+pub record SayLarge (settings : Settings) (texts : List (List ℕ)) : Type 0 where
+  pub program : Program
+  pub checked : SayChecked texts program
+  pub ranges : HaveMoreRows program.statements most_places ⊎ NoneLeavesRange program.statements program.symbols
+  pub live : List (List (List Value))
+  pub theory : ProgramTheory
+  pub is : IsTheoryOf program live theory
+  pub many : most_places < places_in settings (width_of program live theory)
+
+-- no statement leaves the range, and the program means this theory, whose states haven't too many places
+pub record SayTheory (settings : Settings) (texts : List (List ℕ)) (theory : ProgramTheory) : Type 0 where
+  pub program : Program
+  pub checked : SayChecked texts program
+  pub ranges : NoneLeavesRange program.statements program.symbols
+  pub live : List (List (List Value))
+  pub is : IsTheoryOf program live theory
+  pub few : places_in settings (width_of program live theory) ≤ most_places
+
+-- The size is looked at first, then the grammar, then `#show`, then the causes of statements, then the range of numbers, and then the places at the greatest length.
 abbrev pub IsVerdict : Settings → List (List ℕ) → Verdict → Type 0
-IsVerdict settings texts (Accepted program) = (total_bytes texts ≤ largest_text) × SayPlain texts program × (places_of settings program ≤ most_places)
+IsVerdict settings texts (Accepted theory) = (total_bytes texts ≤ largest_text) × SayTheory settings texts theory
 IsVerdict settings texts (Refused fault) = (total_bytes texts ≤ largest_text) × IsFirstFault texts fault
-IsVerdict settings texts (Faulty cause) = (total_bytes texts ≤ largest_text) × SayFaulty texts cause
 IsVerdict settings texts (Unbuilt place) = (total_bytes texts ≤ largest_text) × SayUnbuilt texts place
-IsVerdict settings texts Large = (largest_text < total_bytes texts) ⊎ ((total_bytes texts ≤ largest_text) × ((program : Program) × SayPlain texts program × (most_places < places_of settings program)))
+IsVerdict settings texts (Faulty cause) = (total_bytes texts ≤ largest_text) × SayFaulty texts cause
+IsVerdict settings texts (Leaving place) = (total_bytes texts ≤ largest_text) × SayLeaving texts place
+IsVerdict settings texts Large = (largest_text < total_bytes texts) ⊎ ((total_bytes texts ≤ largest_text) × SayLarge settings texts)
 
 -- how many temporal equilibrium models of length n there are
-abbrev pub count_of : Ground → ℕ → ℕ
-count_of program n = length (list_of program n)
+abbrev pub count_of : ProgramTheory → ℕ → ℕ
+count_of theory n = length (equilibria theory n)
 
 -- what is printed for length n
-abbrev pub printed_length : Ground → ℕ → List ℕ
-printed_length program n = print program n (list_of program n) Complete
+abbrev pub printed_length : ProgramTheory → ℕ → List ℕ
+printed_length theory n = print_theory theory n (equilibria theory n) Complete
 
 -- what a run prints: its lengths in order, and nothing else
-abbrev pub printed_run : Settings → Ground → List ℕ
-printed_run settings program = flat_map (printed_length program) (lengths_of settings (count_of program))
+abbrev pub printed_run : Settings → ProgramTheory → List ℕ
+printed_run settings theory = flat_map (printed_length theory) (lengths_of settings (count_of theory))
 
 -- 10 or 20 as the run tells, and 65 or 69 where the texts are refused
 abbrev pub status_of : Settings → Verdict → ℕ
-status_of settings (Accepted program) = run_status settings (count_of (template_of program.statements))
+status_of settings (Accepted theory) = run_status settings (count_of theory)
 status_of settings (Refused fault) = 65
-status_of settings (Faulty cause) = 65
 status_of settings (Unbuilt place) = 65
+status_of settings (Faulty cause) = 65
+status_of settings (Leaving place) = 65
 status_of settings Large = 69
 
 abbrev pub usage_line : List ℕ
@@ -144,16 +165,20 @@ cause_line causes.Memory = []
 abbrev pub unbuilt_line : Place → List ℕ
 unbuilt_line place = line_at (codes "Unbuilt") place
 
+abbrev pub range_line : Place → List ℕ
+range_line place = line_at (codes "Range") place
+
 -- the line of a failed read of the file word at this place, from 0
 abbrev pub read_line : ℕ → List ℕ
 read_line place = codes "error: read " ++ decimal (place + 1) ++ codes "\n"
 
 -- what is printed
 abbrev pub output_of : Settings → Verdict → List ℕ
-output_of settings (Accepted program) = printed_run settings (template_of program.statements)
+output_of settings (Accepted theory) = printed_run settings theory
 output_of settings (Refused fault) = fault_line fault
-output_of settings (Faulty cause) = cause_line cause
 output_of settings (Unbuilt place) = unbuilt_line place
+output_of settings (Faulty cause) = cause_line cause
+output_of settings (Leaving place) = range_line place
 output_of settings Large = large_line
 
 abbrev pub is_among : List ℕ → ℕ → Bool

@@ -1,38 +1,27 @@
 //! The answer to texts: their verdict, and what is printed for it.
-ghost use Rattle.std.specs.Prelude.{◌≡◌, ℕ, ◌<◌, ◌≤◌, ◌^◌, ◌↔◌, List, Option, length, IsTrue, IfOk, IfErr, OnOk, Some, None, if◌then◌else◌};
+ghost use Rattle.std.specs.Prelude.{◌≡◌, ℕ, ◌<◌, ◌≤◌, ◌^◌, ◌*◌, List, max, Option, length, IsTrue, IfOk, IfErr, OnOk, Some, None, if◌then◌else◌};
 ghost use Rattle.tel_base.specs.declared.places.Place.{Place};
+ghost use Rattle.tel_rule.specs.Ground.{IsGround};
 ghost use Rattle.tel_settings.specs.Run.{run_status};
 ghost use Rattle.part_syntax.specs.Programs.{total_bytes};
-ghost use Rattle.template_build.specs.Plain.{first_unbuilt};
-ghost use Rattle.template_build.specs.Grounding.{template_of};
+ghost use Rattle.program_theory.specs.Ready.{IsReadable, IsReady};
+ghost use Rattle.fact_instantiate.specs.Instantiated.{most_places, template_width, IsInstantiated, IsGroundFault};
 ghost use Rattle.text_answer.specs.Delivery.{code_of, Delivers, TellsFaults};
-ghost use Rattle.text_answer.specs.Verdict.{largest_text, Verdict, Accepted, IsVerdict, most_places, places_in, places_of, count_of, printed_run, status_of, output_of, large_line, unbuilt_line, TellsOfText, ComesOfText, Answers};
-ghost use Rattle.text_answer.specs.Refusals.{DeliversFault, DeliversCause, DeliversRead, IsPlainFault};
+ghost use Rattle.text_answer.specs.Running.{template_count, template_run};
+ghost use Rattle.text_answer.specs.Shown.{is_show, first_shown};
+ghost use Rattle.text_answer.specs.Verdict.{largest_text, Verdict, IsVerdict, places_in, status_of, output_of, TellsOfText, ComesOfText, Answers};
+ghost use Rattle.text_answer.specs.Refusals.{DeliversFault, DeliversCause, DeliversProgram, DeliversUnshown, DeliversRead};
 
 use crate::refusing::{refuse_at, refuse_large, refuse_named};
 use crate::running::{RunFault, print_run};
 use crate::status::Status;
+use fact_instantiate::{GroundFault, instantiate};
 use part_syntax::{ReadFault, read};
-use rule_check::{CheckFault, check};
+use rule_check::{CheckFault, check, key_of};
 use std::alloc::Global;
 use tel_base::{Place, Sink, Text};
-use tel_rule::{Program, Template};
+use tel_rule::{Kind, Program, Statement, Template};
 use tel_settings::Settings;
-use template_build::{first_unbuilt, template};
-
-/// The most places that all states of the greatest length may have together.
-const MOST_PLACES: u64 = 4194304;
-
-/// Why a program that is read can't be run.
-#[derive(Clone, Copy, Debug, PartialEq, Eq)]
-pub enum PlainFault {
-    /// The statement with its first token here isn't plain.
-    Unbuilt(Place),
-    /// Its states have too many places at the greatest length.
-    Large,
-    /// There was no memory for it.
-    Memory,
-}
 
 /// The status of a run of which some length has a trace, or none.
 fn status_after(found: bool) -> Status
@@ -52,8 +41,8 @@ fn answer_template<O: Sink>(
     settings: &Settings,
     template: Template,
 ) -> Status
-    requires { places_in settings.now template ≤ most_places }
-    ensures delivers { Delivers (code_of result) (run_status settings.now (count_of template)) (printed_run settings.now template) (O.bytes out.old) (O.bytes out.new) }
+    requires { places_in settings.now (template_width template) ≤ most_places }
+    ensures delivers { Delivers (code_of result) (run_status settings.now (template_count template)) (template_run settings.now template) (O.bytes out.old) (O.bytes out.new) }
     ensures faults { TellsFaults (code_of result) (O.faults out.old) (O.faults out.new) }
 {
     match print_run(alloc, out, settings, template) {
@@ -63,61 +52,45 @@ fn answer_template<O: Sink>(
     }
 }
 
-/// Whether the states of a program have too many places at the greatest length.
-fn is_too_large(settings: &Settings, template: &Template) -> bool
-    ensures { IsTrue result ↔ (most_places < places_in settings.now template.now) }
+/// The template of a program, where no statement leaves the range and its states haven't too many places.
+fn build(alloc: Global, settings: &Settings, program: Program) -> Result<Template, GroundFault>
+    requires { IsReady program }
+    ensures template { IfOk result (λ template. IsInstantiated program (max settings.now.imax 1) template) }
+    ensures fault { IfErr result (λ fault. IsGroundFault program (max settings.now.imax 1) fault) }
 {
-    let width = (template.atoms.len() as u64)
-        .saturating_add(template.nodes.len() as u64)
-        .saturating_add(template.instances.len() as u64)
-        .saturating_add(1);
-    MOST_PLACES < u64::from(settings.imax.max(1)).saturating_mul(width)
-}
-
-/// The template of a program whose statements are plain, where its states haven't too many places.
-fn build(alloc: Global, settings: &Settings, program: &Program) -> Result<Template, PlainFault>
-    requires { length program.now.statements < 2 ^ 32 }
-    ensures ok { IfOk result (λ template. template ≡ template_of program.now.statements) }
-    ensures all_plain { OnOk result (first_unbuilt program.now.statements ≡ None) }
-    ensures few { OnOk result (places_of settings.now program.now ≤ most_places) }
-    ensures room { IfOk result (λ template. places_in settings.now template ≤ most_places) }
-    ensures fault { IfErr result (λ fault. IsPlainFault settings.now program.now fault) }
-{
-    let statements = program.statements.as_slice();
-    if let Some(place) = first_unbuilt(statements) {
-        return Err(PlainFault::Unbuilt(place));
-    }
-    let template = match template(alloc, statements) {
-        Ok(template) => template,
-        Err(_) => return Err(PlainFault::Memory),
+    let key = match key_of(alloc, program.statements.as_slice()) {
+        Ok(key) => key,
+        Err(_) => return Err(GroundFault::Memory),
     };
-    if is_too_large(settings, &template) {
-        return Err(PlainFault::Large);
-    }
-    Ok(template)
+    instantiate(alloc, key, program, settings.imax.max(1))
 }
 
-/// Answers a program without a cause, which may have a statement that isn't plain, or too many places.
+/// What each template keeps.
+fn keeps_ground(template: &Template)
+    ensures { IsGround template.now }
+{
+    let _atoms = template.atoms.len();
+}
+
+/// Answers a program without a cause.
 fn answer_program<O: Sink>(
     alloc: Global,
     out: &mut O,
     settings: &Settings,
-    program: &Program,
+    program: Program,
 ) -> Status
-    requires { length program.now.statements < 2 ^ 32 }
-    ensures accepted { first_unbuilt program.now.statements ≡ None → places_of settings.now program.now ≤ most_places
-        → Delivers (code_of result) (status_of settings.now (Accepted program.now)) (output_of settings.now (Accepted program.now)) (O.bytes out.old) (O.bytes out.new) }
-    ensures unbuilt { (place : Place) → first_unbuilt program.now.statements ≡ Some place
-        → Delivers (code_of result) 65 (unbuilt_line place) (O.bytes out.old) (O.bytes out.new) }
-    ensures large { first_unbuilt program.now.statements ≡ None → most_places < places_of settings.now program.now
-        → Delivers (code_of result) 69 large_line (O.bytes out.old) (O.bytes out.new) }
+    requires { IsReady program }
+    ensures delivers { DeliversProgram (λ status bytes. Delivers (code_of result) status bytes (O.bytes out.old) (O.bytes out.new)) settings.now program }
     ensures faults { TellsFaults (code_of result) (O.faults out.old) (O.faults out.new) }
 {
     match build(alloc, settings, program) {
-        Ok(template) => answer_template(alloc, out, settings, template),
-        Err(PlainFault::Unbuilt(place)) => refuse_at(out, b"Unbuilt", place),
-        Err(PlainFault::Large) => refuse_large(out),
-        Err(PlainFault::Memory) => Status::Memory,
+        Ok(template) => {
+            keeps_ground(&template);
+            answer_template(alloc, out, settings, template)
+        }
+        Err(GroundFault::Range(place)) => refuse_at(out, b"Range", place),
+        Err(GroundFault::Large) => refuse_large(out),
+        Err(GroundFault::Memory) => Status::Memory,
     }
 }
 
@@ -139,15 +112,54 @@ fn answer_cause<O: Sink>(out: &mut O, cause: &CheckFault) -> Status
     }
 }
 
-/// Answers a program as it is read.
-fn answer_read<O: Sink>(alloc: Global, out: &mut O, settings: &Settings, program: Program) -> Status
-    requires { length program.statements < 2 ^ 32 }
-    ensures delivers { DeliversRead (λ status bytes. Delivers (code_of result) status bytes (O.bytes out.old) (O.bytes out.new)) settings.now program }
+/// Answers a program without a `#show`.
+fn answer_unshown<O: Sink>(
+    alloc: Global,
+    out: &mut O,
+    settings: &Settings,
+    program: Program,
+) -> Status
+    requires { IsReadable program }
+    ensures delivers { DeliversUnshown (λ status bytes. Delivers (code_of result) status bytes (O.bytes out.old) (O.bytes out.new)) settings.now program }
     ensures faults { TellsFaults (code_of result) (O.faults out.old) (O.faults out.new) }
 {
     match check(alloc, program) {
-        Ok(checked) => answer_program(alloc, out, settings, checked.program()),
+        Ok(checked) => answer_program(alloc, out, settings, checked.into_program()),
         Err(cause) => answer_cause(out, &cause),
+    }
+}
+
+/// Whether a statement says what is shown.
+fn is_show(kind: &Kind) -> bool
+    ensures { result ≡ is_show kind.now }
+{
+    match kind {
+        Kind::Show(_) => true,
+        _ => false,
+    }
+}
+
+/// The place of the first `#show`.
+fn first_shown(statements: &[Statement]) -> Option<Place>
+    ensures { result ≡ first_shown statements.now }
+{
+    for statement in statements {
+        if is_show(&statement.kind) {
+            return Some(statement.place);
+        }
+    }
+    None
+}
+
+/// Answers a program as it is read.
+fn answer_read<O: Sink>(alloc: Global, out: &mut O, settings: &Settings, program: Program) -> Status
+    requires { IsReadable program }
+    ensures delivers { DeliversRead (λ status bytes. Delivers (code_of result) status bytes (O.bytes out.old) (O.bytes out.new)) settings.now program }
+    ensures faults { TellsFaults (code_of result) (O.faults out.old) (O.faults out.new) }
+{
+    match first_shown(program.statements.as_slice()) {
+        Some(place) => refuse_at(out, b"Unbuilt", place),
+        None => answer_unshown(alloc, out, settings, program),
     }
 }
 

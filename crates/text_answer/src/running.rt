@@ -3,8 +3,9 @@ ghost use Rattle.std.specs.Prelude.{◌≡◌, ℕ, ◌+◌, ◌<◌, ◌≤◌,
 ghost use Rattle.std.specs.List.{flat_map, list_any};
 ghost use Rattle.tel_semantics.specs.Print.{greatest_count};
 ghost use Rattle.tel_settings.specs.Run.{lengths_of};
-ghost use Rattle.text_answer.specs.Running.{Runs};
-ghost use Rattle.text_answer.specs.Verdict.{most_places, places_in, count_of, printed_length, printed_run};
+ghost use Rattle.fact_instantiate.specs.Instantiated.{most_places, template_width};
+ghost use Rattle.text_answer.specs.Running.{Runs, template_count, template_length, template_run};
+ghost use Rattle.text_answer.specs.Verdict.{places_in};
 
 use std::alloc::Global;
 use tel_base::{NullSink, Sink};
@@ -31,8 +32,8 @@ fn print_next<O: Sink>(out: &mut O, engine: &mut Engine<LeastScan>) -> Result<u6
     ensures greatest { engine.new.greatest ≡ engine.old.greatest }
     ensures length { OnOk result (engine.new.length ≡ engine.old.length + 1) }
     ensures stage { OnOk result (engine.new.stage ≡ Stage.Listed) }
-    ensures count { IfOk result (λ count. count ≡ min (count_of engine.old.template (engine.old.length + 1)) greatest_count) }
-    ensures prints { Runs result (printed_length engine.old.template (engine.old.length + 1)) (O.bytes out.old) (O.bytes out.new) (O.faults out.old) (O.faults out.new) }
+    ensures count { IfOk result (λ count. count ≡ min (template_count engine.old.template (engine.old.length + 1)) greatest_count) }
+    ensures prints { Runs result (template_length engine.old.template (engine.old.length + 1)) (O.bytes out.old) (O.bytes out.new) (O.faults out.old) (O.faults out.new) }
 {
     match engine.extend() {
         Ok(()) => {}
@@ -61,8 +62,8 @@ fn print_lengths<O: Sink>(
     requires begun { engine.old.length ≡ 0 }
     requires listed { engine.old.stage ≡ Stage.Listed }
     requires within { settings.now.imax ≤ engine.old.greatest }
-    ensures found { IfOk result (λ found. found ≡ list_any (λ n. nat_lt 0 (count_of engine.old.template n)) (lengths_of settings.now (count_of engine.old.template))) }
-    ensures prints { Runs result (printed_run settings.now engine.old.template) (O.bytes out.old) (O.bytes out.new) (O.faults out.old) (O.faults out.new) }
+    ensures found { IfOk result (λ found. found ≡ list_any (λ n. nat_lt 0 (template_count engine.old.template n)) (lengths_of settings.now (template_count engine.old.template))) }
+    ensures prints { Runs result (template_run settings.now engine.old.template) (O.bytes out.old) (O.bytes out.new) (O.faults out.old) (O.faults out.new) }
 {
     let imax = settings.imax;
     let mut found = false;
@@ -90,9 +91,9 @@ pub fn print_run<O: Sink>(
     settings: &Settings,
     template: Template,
 ) -> Result<bool, RunFault>
-    requires { places_in settings.now template ≤ most_places }
-    ensures found { IfOk result (λ found. found ≡ list_any (λ n. nat_lt 0 (count_of template n)) (lengths_of settings.now (count_of template))) }
-    ensures prints { Runs result (printed_run settings.now template) (O.bytes out.old) (O.bytes out.new) (O.faults out.old) (O.faults out.new) }
+    requires { places_in settings.now (template_width template) ≤ most_places }
+    ensures found { IfOk result (λ found. found ≡ list_any (λ n. nat_lt 0 (template_count template n)) (lengths_of settings.now (template_count template))) }
+    ensures prints { Runs result (template_run settings.now template) (O.bytes out.old) (O.bytes out.new) (O.faults out.old) (O.faults out.new) }
 {
     let founded = LeastScan::new(alloc);
     let mut engine = Engine::new(alloc, template, settings.imax.max(1), founded);

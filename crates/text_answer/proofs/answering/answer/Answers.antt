@@ -1,6 +1,10 @@
 use Rattle.text_answer.specs.Delivery.{code_of, Delivers}
 use Rattle.text_answer.proofs.Verdicts.{program-delivers, program-answers, program-kind, fault-delivers, fault-answers, fault-kind}
+use Rattle.text_answer.proofs.Theories.{texts_readable}
 use Rattle.text_answer.proofs.answering.answer.Goals as goal
+
+pub answer_read-requires : goal.answer_read-requires
+answer_read-requires g c = texts_readable c.args.texts.now c.in-Ok.program c.requires.small c.in-Ok.ensures.ok
 
 pub returns-in-Ok-clause-delivers : goal.returns-in-Ok-clause-delivers
 returns-in-Ok-clause-delivers g c =
@@ -10,11 +14,11 @@ returns-in-Ok-clause-delivers g c =
 
 pub returns-in-Ok-clause-answers : goal.returns-in-Ok-clause-answers
 returns-in-Ok-clause-answers g c =
-    program-answers c.args.settings.now c.args.texts.now c.in-Ok.program _ (g.O.Sink.bytes c.args.out.now) (g.O.Sink.bytes c.answer_read.new.out) c.requires.small c.in-Ok.ensures.ok c.answer_read.ensures.delivers
+    program-answers c.args.settings.now c.args.texts.now c.in-Ok.program _ (g.O.Sink.bytes c.args.out.now) (g.O.Sink.bytes c.answer_read.new.out) (texts_readable c.args.texts.now c.in-Ok.program c.requires.small c.in-Ok.ensures.ok) c.requires.small c.in-Ok.ensures.ok c.answer_read.ensures.delivers
 
 pub returns-in-Ok-clause-kind : goal.returns-in-Ok-clause-kind
 returns-in-Ok-clause-kind g c =
-    program-kind c.args.settings.now c.args.texts.now c.in-Ok.program _ (g.O.Sink.bytes c.args.out.now) (g.O.Sink.bytes c.answer_read.new.out) c.requires.small c.in-Ok.ensures.ok c.answer_read.ensures.delivers
+    program-kind c.args.settings.now c.args.texts.now c.in-Ok.program _ (g.O.Sink.bytes c.args.out.now) (g.O.Sink.bytes c.answer_read.new.out) (texts_readable c.args.texts.now c.in-Ok.program c.requires.small c.in-Ok.ensures.ok) c.requires.small c.in-Ok.ensures.ok c.answer_read.ensures.delivers
 
 pub returns-in-Err-clause-delivers : goal.returns-in-Err-clause-delivers
 returns-in-Err-clause-delivers g c =

@@ -5,8 +5,7 @@ use Rattle.tel_base.specs.Bytes.{Appends}
 use Rattle.tel_base.proofs.Told.{appends-then}
 use Rattle.tel_semantics.specs.Print.{greatest_count}
 use Rattle.tel_settings.specs.Run.{lengths_of, lengths_from, stops_at}
-use Rattle.text_answer.specs.Running.{Runs}
-use Rattle.text_answer.specs.Verdict.{count_of, printed_length}
+use Rattle.text_answer.specs.Running.{Runs, template_count, template_length}
 use Rattle.trace_print.proofs.Writing.{fault_at}
 use Rattle.text_answer.proofs.Capped.{some_capped, stops_capped}
 use Rattle.text_answer.proofs.Runs.{runs-then, runs-short, lengths-more, lengths-last, printed-split, printed-next, found-next}
@@ -16,16 +15,16 @@ pub returns-in-Err-clause-prints : goal.returns-in-Err-clause-prints
 returns-in-Err-clause-prints g c =
     let settings = c.args.settings.now in
     let template = c.args.engine.now.template in
-    let count = count_of template in
+    let count = template_count template in
     let last = λ (n : ℕ). stops_at settings n (count n) in
-    let print = printed_length template in
+    let print = template_length template in
     let n = c.running.n in
     let rest = flat_map print (cond (last (n + 1)) [] (lengths_from last (n + 1 + 1) (settings.imax - (n + 1)))) in
     let bytes = g.O.Sink.bytes in
     let faults = g.O.Sink.faults in
     let new = c.print_next.new.out in
     let at = c.running.invariant in
-    let here : printed_length c.running.engine.template (c.running.engine.length + 1) ≡ print (n + 1) = (λ i. printed_length (at.template i) (at.length i + 1)) in
+    let here : template_length c.running.engine.template (c.running.engine.length + 1) ≡ print (n + 1) = (λ i. template_length (at.template i) (at.length i + 1)) in
     subst (λ (w : List ℕ). Runs (fault_at Bool c.in-Err.fault) w (bytes c.args.out.now) (bytes new) (faults c.args.out.now) (faults new))
     (sym (printed-split print last (lengths_of settings count) n settings.imax c.running-test.true at.lengths))
     (runs-then (fault_at Bool c.in-Err.fault) (flat_map print (range_with_len 1 n)) (print (n + 1) ++ rest) (bytes c.args.out.now) (bytes c.running.out) (bytes new)
@@ -36,12 +35,12 @@ returns-in-Err-clause-prints g c =
 pub returns-then-stops-clause-found : goal.returns-then-stops-clause-found
 returns-then-stops-clause-found g c =
     let settings = c.args.settings.now in
-    let count = count_of c.args.engine.now.template in
+    let count = template_count c.args.engine.now.template in
     let last = λ (n : ℕ). stops_at settings n (count n) in
     let has = λ (n : ℕ). nat_lt 0 (count n) in
     let n = c.running.n in
     let at = c.running.invariant in
-    let counted : c.in-Ok.traces ≡ min (count (n + 1)) greatest_count = c.in-Ok.ensures.count ∙ (λ i. min (count_of (at.template i) (at.length i + 1)) greatest_count) in
+    let counted : c.in-Ok.traces ≡ min (count (n + 1)) greatest_count = c.in-Ok.ensures.count ∙ (λ i. min (template_count (at.template i) (at.length i + 1)) greatest_count) in
     let stopped : last (n + 1) ≡ true = sym (stops_capped settings (n + 1) (count (n + 1))) ∙ ap (stops_at settings (n + 1)) (sym counted) ∙ sym c.if-stops.ensures in
     let all = lengths-last last (lengths_of settings count) n settings.imax c.running-test.true stopped at.lengths in
     c.has_trace-more.ensures
@@ -54,16 +53,16 @@ pub returns-then-stops-clause-prints : goal.returns-then-stops-clause-prints
 returns-then-stops-clause-prints g c =
     let settings = c.args.settings.now in
     let template = c.args.engine.now.template in
-    let count = count_of template in
+    let count = template_count template in
     let last = λ (n : ℕ). stops_at settings n (count n) in
-    let print = printed_length template in
+    let print = template_length template in
     let n = c.running.n in
     let bytes = g.O.Sink.bytes in
     let at = c.running.invariant in
-    let counted : c.in-Ok.traces ≡ min (count (n + 1)) greatest_count = c.in-Ok.ensures.count ∙ (λ i. min (count_of (at.template i) (at.length i + 1)) greatest_count) in
+    let counted : c.in-Ok.traces ≡ min (count (n + 1)) greatest_count = c.in-Ok.ensures.count ∙ (λ i. min (template_count (at.template i) (at.length i + 1)) greatest_count) in
     let stopped : last (n + 1) ≡ true = sym (stops_capped settings (n + 1) (count (n + 1))) ∙ ap (stops_at settings (n + 1)) (sym counted) ∙ sym c.if-stops.ensures in
     let all = lengths-last last (lengths_of settings count) n settings.imax c.running-test.true stopped at.lengths in
-    let here : printed_length c.running.engine.template (c.running.engine.length + 1) ≡ print (n + 1) = (λ i. printed_length (at.template i) (at.length i + 1)) in
+    let here : template_length c.running.engine.template (c.running.engine.length + 1) ≡ print (n + 1) = (λ i. template_length (at.template i) (at.length i + 1)) in
     let prints = c.in-Ok.ensures.prints in
     let next = subst (λ (w : List ℕ). Appends (bytes c.running.out) (bytes c.print_next.new.out) w) here prints.0 in
     let both = appends-then (bytes c.args.out.now) (bytes c.running.out) (bytes c.print_next.new.out) (flat_map print (range_with_len 1 n)) (print (n + 1)) at.printed next in
@@ -73,16 +72,16 @@ pub running-preserved : goal.running-preserved
 running-preserved g c =
     let settings = c.args.settings.now in
     let template = c.args.engine.now.template in
-    let count = count_of template in
+    let count = template_count template in
     let last = λ (n : ℕ). stops_at settings n (count n) in
     let has = λ (n : ℕ). nat_lt 0 (count n) in
-    let print = printed_length template in
+    let print = template_length template in
     let n = c.running.n in
     let bytes = g.O.Sink.bytes in
     let at = c.running.invariant in
-    let counted : c.in-Ok.traces ≡ min (count (n + 1)) greatest_count = c.in-Ok.ensures.count ∙ (λ i. min (count_of (at.template i) (at.length i + 1)) greatest_count) in
+    let counted : c.in-Ok.traces ≡ min (count (n + 1)) greatest_count = c.in-Ok.ensures.count ∙ (λ i. min (template_count (at.template i) (at.length i + 1)) greatest_count) in
     let goes : last (n + 1) ≡ false = sym (stops_capped settings (n + 1) (count (n + 1))) ∙ ap (stops_at settings (n + 1)) (sym counted) ∙ sym c.if-stops.ensures in
-    let here : printed_length c.running.engine.template (c.running.engine.length + 1) ≡ print (n + 1) = (λ i. printed_length (at.template i) (at.length i + 1)) in
+    let here : template_length c.running.engine.template (c.running.engine.length + 1) ≡ print (n + 1) = (λ i. template_length (at.template i) (at.length i + 1)) in
     let prints = c.in-Ok.ensures.prints in
     let next = subst (λ (w : List ℕ). Appends (bytes c.running.out) (bytes c.print_next.new.out) w) here prints.0 in
     let both = appends-then (bytes c.args.out.now) (bytes c.running.out) (bytes c.print_next.new.out) (flat_map print (range_with_len 1 n)) (print (n + 1)) at.printed next in

@@ -1,4 +1,0 @@
-pub mod Plain
-pub mod Naming
-pub mod Grounding
-pub mod Meaning
