@@ -2,10 +2,12 @@
 use Rattle.std.proofs.Common.{◌≡◌, ◌↔◌, ◌∙◌, ◌⊎◌, inl, inr, ℕ, zero, suc, ◌+◌, ◌<◌, true, false, List, [], ◌∷◌, ◌++◌, map, length, refl, sym, ap, subst, ⊎_elim, arith, true≢false}
 use Rattle.std.specs.Prelude.{Bool, Some, slice_get, replicate}
 use Rattle.std.specs.List.{list_all}
+use Rattle.std.specs.List.Sorted.{IsPermutation}
+use Rattle.std.proofs.lemmas.List.Sorted.{Contains-permutation}
 use Rattle.std.proofs.lemmas.Bool.{and_parts}
 use Rattle.std.proofs.lemmas.List.{append-nil}
 use Rattle.tel_base.specs.Members.{In}
-use Rattle.tel_base.proofs.Members.{In-append_left, In-append_right, In-append_cases, In-map_from, list_all-from_In}
+use Rattle.tel_base.proofs.Members.{In-append_left, In-append_right, In-append_cases, In-map_from, list_all-from_In, In-from_Contains, Contains-from_In}
 use Rattle.tel_term.specs.declared.terms.Term.{Term}
 use Rattle.join_plans.specs.Join as plans
 use Rattle.join_plans.specs.Join.{is_known, IsPlan}
@@ -106,3 +108,7 @@ module _ (tables : Tables) (symbols : List Term) (places : ℕ) (goals : List Go
         closed = λ goal there is. (taken goal there is).1;
         misses = (at.0, omega (arith, at.1, long), at.2);
       }
+
+-- what is in a list is in each order of it
+pub moved_in : {X : Type 0} (xs ys : List X) (x : X) → IsPermutation xs ys → In x xs → In x ys
+moved_in xs ys x moved there = In-from_Contains ys x (Contains-permutation xs ys x moved (Contains-from_In xs x there))

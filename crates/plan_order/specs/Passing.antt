@@ -9,8 +9,6 @@ use Rattle.join_plans.specs.Goals.{goal_of}
 use Rattle.plan_search.specs.declared.steps.Step.{Step}
 use Rattle.plan_search.specs.Steps.{Tables, plan_of, HaveTerms}
 use Rattle.plan_order.specs.declared.goals.Goal.{Goal}
-use Rattle.plan_order.specs.declared.choosing.Which.{Which}
-use Rattle.plan_order.specs.declared.choosing.Which.TheVariants as which
 use Rattle.plan_order.specs.Goals.{meant, GoalsHaveTerms, ready, IsDone}
 use Rattle.plan_order.specs.Taking.{TakesOr}
 
@@ -33,17 +31,13 @@ AreInside goals left = (n : ℕ) → In n left → n < length goals
 abbrev pub AreUnready : List Goal → List ℕ → List Bool → Type 0
 AreUnready goals left known = (n : ℕ) (goal : Goal) → In n left → slice_get goals n ≡ Some goal → IsFalse (ready known goal)
 
--- a goal was taken or not; where all goals are offered, it was where it was ready
-pub record Tries (goal : Goal) (offered : Which) (took : Bool) (old new : List Bool) (before after : List Step) : Type 0 where
-  pub taken : TakesOr goal took old new before after
-  pub where_ready : offered ≡ which.All → took ≡ ready old goal
-
-pub record Passes (goals : List Goal) (offered : Which) (left next : List ℕ) (old new : List Bool) (before after : List Step) : Type 0 where
+-- each goal that was left was offered once
+pub record Passes (goals : List Goal) (left next : List ℕ) (old new : List Bool) (before after : List Step) : Type 0 where
   pub keeps : Keeps goals left next old new before after
   pub inside : AreInside goals next
   pub long : length new ≡ length old
   pub fewer : length next ≤ length left
-  pub quiet : offered ≡ which.All → length next ≡ length left → AreUnready goals next new
+  pub quiet : length next ≡ length left → AreUnready goals next new
 
 -- some goals were taken: these are left, and each is one
 pub record Drafts (goals : List Goal) (left next : List ℕ) (old new : List Bool) (before after : List Step) : Type 0 where

@@ -1,12 +1,12 @@
 //! The order of the steps of a plan.
 #![tactic(auto)]
 
-mod choosing;
 mod goals;
 mod laws;
 mod marks;
 mod ordering;
 mod passing;
+mod ranking;
 mod taking;
 
 pub use goals::Goal;

@@ -9,7 +9,8 @@ ghost use Rattle.plan_order.specs.Goals.{IsSound};
 ghost use Rattle.plan_order.specs.Passing.{IsOrdered, IsStuck};
 
 use crate::goals::Goal;
-use crate::passing::{draft, finish};
+use crate::passing::finish;
+use crate::ranking::ranks;
 use fact_table::Tables;
 use plan_search::Step;
 use sqlite_items::Items;
@@ -25,14 +26,23 @@ fn no_marks(alloc: Global, places: usize) -> Result<Items<bool>, Memory>
 }
 
 /// The numbers below a count.
-fn numbers(alloc: Global, count: usize) -> Result<Items<usize>, Memory>
-    ensures { IfOk result (λ numbers. (n : ℕ) → In n numbers ↔ (n < count)) }
+fn numbers(alloc: Global, count: usize) -> Result<Vec<usize>, Memory>
+    ensures { IfOk result (λ numbers. (n : ℕ) → In n numbers.items ↔ (n < count)) }
 {
-    let mut numbers = Items::new(alloc);
+    let mut numbers = Vec::new(alloc);
     for number in 0..count {
         numbers.push(number)?;
     }
     Ok(numbers)
+}
+
+/// The numbers below a count, by their ranks.
+fn ranked(alloc: Global, count: usize, ranks: &[usize]) -> Result<Items<usize>, Memory>
+    ensures { IfOk result (λ numbers. (n : ℕ) → In n numbers ↔ (n < count)) }
+{
+    let mut numbers = numbers(alloc, count)?;
+    numbers.sort_unstable_by_key(|number| ranks.get(*number).copied());
+    Ok(Items::from_vec(numbers))
 }
 
 /// Whether each place has a value.
@@ -48,7 +58,7 @@ fn are_all(known: &[bool]) -> bool
 }
 
 /// Steps that ask for exactly these goals, in an order in which they can be run; or none, and then some
-/// place gets no value by any of them.
+/// place gets no value by any of them. It takes time near linear in the goals and their places.
 pub fn order_goals<'a>(
     alloc: Global,
     tables: &Tables,
@@ -60,9 +70,9 @@ pub fn order_goals<'a>(
 {
     let mut known = no_marks(alloc, places)?;
     let mut steps = Vec::new(alloc);
-    let all = numbers(alloc, goals.len())?;
-    let left = draft(alloc, tables, goals, all, &mut known, &mut steps)?;
-    finish(alloc, goals, left, &mut known, &mut steps)?;
+    let ranks = ranks(alloc, tables, goals, places)?;
+    let all = ranked(alloc, goals.len(), ranks.as_slice())?;
+    finish(alloc, goals, all, &mut known, &mut steps)?;
     if are_all(known.as_slice()) {
         Ok(Some(steps))
     } else {
