@@ -10,7 +10,7 @@ use std::marker::Model;
 ///
 /// Each state has a variable for each of them and one for the end, so `width` in all. Those of state 0
 /// come first. All variables together are fewer than 2147483648.
-#[derive(Clone, Copy, Debug)]
+#[derive(Clone, Copy)]
 pub struct AtomSpace {
     pub atoms: u32,
     pub nodes: u32,
@@ -31,7 +31,7 @@ impl Model for AtomSpace {
 }
 
 /// What a variable stands for: a number and then a state, or for the end a state alone.
-#[derive(Clone, Copy, Debug, PartialEq, Eq)]
+#[derive(Clone, Copy, PartialEq, Eq)]
 pub enum VarName {
     /// An atom is true at the state.
     Visible(u32, u32),

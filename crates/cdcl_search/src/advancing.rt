@@ -14,7 +14,7 @@ use tel_base::Lit;
 use trail_walk::{Walked, open_end, walk};
 
 /// What the walk comes to.
-#[derive(Clone, Copy, Debug)]
+#[derive(Clone, Copy)]
 pub enum Advanced {
     /// It is closed.
     Closed,

@@ -7,7 +7,7 @@ use atom_space::AtomSpace;
 use std::marker::Model;
 
 /// A length that the search is at.
-#[derive(Clone, Copy, Debug)]
+#[derive(Clone, Copy)]
 pub struct Begun {
     /// The variables of its states.
     pub space: AtomSpace,

@@ -8,7 +8,7 @@ use clause_store::ClauseId;
 use unfounded_sets::LoopNogood;
 
 /// The unfounded set of a loop clause that is held, and the atom of the clause.
-#[derive(Debug, Drop)]
+#[derive(Drop)]
 pub struct LoopSet {
     /// The number of the clause.
     pub clause: usize,

@@ -3,7 +3,7 @@
 use clause_store::ClauseId;
 
 /// The answer of a step.
-#[derive(Clone, Copy, Debug)]
+#[derive(Clone, Copy)]
 pub enum Step {
     /// A clause was added: a loop clause or a learnt one.
     Added(ClauseId),

@@ -84,7 +84,7 @@ fn put_clear(marks: &mut Vec<bool>, count: usize)
 }
 
 /// A learnt clause.
-#[derive(Clone, Copy, Debug)]
+#[derive(Clone, Copy)]
 pub struct Learnt<'a> {
     /// Its literals, the one of the trail's level first.
     pub lits: &'a [Lit],

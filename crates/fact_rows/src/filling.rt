@@ -17,7 +17,7 @@ use tel_rule::{Arg, Fact, Kind, Statement};
 use tel_term::Value;
 
 /// Why a program has no tables.
-#[derive(Clone, Copy, Debug, PartialEq, Eq)]
+#[derive(Clone, Copy, PartialEq, Eq)]
 pub enum RowsFault {
     /// There are more rows than the limit.
     Large,

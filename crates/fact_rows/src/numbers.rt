@@ -15,7 +15,7 @@ use tel_base::{HashKey, Memory, Text};
 use tel_rule::{Arg, Atom, Fact, Head, Kind, Part, Statement};
 
 /// A predicate whose name has a number.
-#[derive(Clone, Copy, Debug, PartialEq, Eq, Hash)]
+#[derive(Clone, Copy, PartialEq, Eq, Hash)]
 pub struct Form {
     pub name: usize,
     pub negative: bool,

@@ -7,7 +7,7 @@ use tel_rule::Arg;
 use tel_term::{Value, eval};
 
 /// The values of an argument: one, or the numbers from one to another that is no less.
-#[derive(Clone, Copy, Debug)]
+#[derive(Clone, Copy)]
 pub enum Values {
     One(Value),
     Range(i32, i32),

@@ -10,7 +10,7 @@ use tel_base::{HashKey, Memory};
 use tel_term::Value;
 
 /// A value in a column.
-#[derive(Clone, Copy, Debug, PartialEq, Eq, Hash)]
+#[derive(Clone, Copy, PartialEq, Eq, Hash)]
 pub struct Cell {
     pub column: usize,
     pub value: Value,

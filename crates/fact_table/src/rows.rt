@@ -10,7 +10,7 @@ use std::marker::Model;
 use tel_term::Value;
 
 /// The arguments of an atom of a table. Contracts see the list of its values.
-#[derive(Debug, Drop)]
+#[derive(Drop)]
 pub struct Row {
     values: Vec<Value>,
 }

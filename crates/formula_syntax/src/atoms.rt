@@ -15,7 +15,7 @@ use tel_term::Expr;
 const FURTHER_ARGUMENTS: usize = 7;
 
 /// An atom without its arguments.
-#[derive(Clone, Copy, Debug)]
+#[derive(Clone, Copy)]
 pub struct Signed<'b> {
     pub negative: bool,
     pub before: bool,

@@ -1,5 +1,5 @@
 /// The signs of the language, and the words that stand for nothing but themselves.
-#[derive(Clone, Copy, Debug, PartialEq, Eq)]
+#[derive(Clone, Copy, PartialEq, Eq)]
 pub enum Mark {
     /// `:-`
     If,

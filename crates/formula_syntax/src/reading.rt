@@ -17,7 +17,7 @@ use tel_base::Memory;
 use tel_lex::Token;
 
 /// Why a reading stops.
-#[derive(Clone, Copy, Debug)]
+#[derive(Clone, Copy)]
 pub enum Stop {
     /// The next token can't stand here.
     Unexpected,

@@ -9,7 +9,7 @@ use tel_lex::{Token, TokenKind};
 
 /// What a token says: a name, but for `not`; a variable, by its name; a number and a string, by how
 /// they are written; a sign, which `not` and the directives are too; or none of the language.
-#[derive(Clone, Copy, Debug)]
+#[derive(Clone, Copy)]
 pub enum Sense<'a> {
     Name(&'a [u8]),
     Variable(&'a [u8]),

@@ -15,6 +15,15 @@ fn settings_of(alloc: Global, given: &[Value]) -> Result<Option<Settings>, Cause
     }
 }
 
+/// The rule's name.
+fn stop_name(stop: Stop) -> &'static str {
+    match stop {
+        Stop::Sat => "Sat",
+        Stop::Unsat => "Unsat",
+        Stop::Unknown => "Unknown",
+    }
+}
+
 /// The least and the greatest length, the rule and the number of files of these words, as `0 20 Sat 1`.
 pub fn settled(alloc: Global, given: &[Value]) -> Result<Vec<u8>, Cause> {
     let Some(settings) = settings_of(alloc, given)? else {
@@ -24,10 +33,8 @@ pub fn settled(alloc: Global, given: &[Value]) -> Result<Vec<u8>, Cause> {
         Input::Files(files) => files.len(),
         Input::Number(_) => 0,
     };
-    shown(format!(in alloc;
-        "{} {} {:?} {files}",
-        settings.imin, settings.imax, settings.stop
-    ))
+    let stop = stop_name(settings.stop);
+    shown(format!(in alloc; "{} {} {stop} {files}", settings.imin, settings.imax))
 }
 
 /// A number of a length or of traces.

@@ -8,6 +8,7 @@ mod calls;
 mod commands;
 mod names;
 mod outside;
+mod prefix;
 mod shown;
 mod terms;
 mod tokens;

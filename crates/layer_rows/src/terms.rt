@@ -1,5 +1,6 @@
 //! Calls of the layer of terms.
 
+use crate::prefix::put_value;
 use crate::shown::shown;
 use crate::tokens::text_of;
 use crate::trees::whole;
@@ -7,7 +8,7 @@ use row_tables::{Cause, Value as Given};
 use std::alloc::Global;
 use std::cmp::Ordering;
 use tel_base::{HashKey, Text};
-use tel_term::{Expr, Symbols, Term, Value, eval};
+use tel_term::{EvalFault, Expr, Symbols, Term, Value, eval};
 
 /// A term: a number, a string behind a quote, or else a name.
 fn term_of(alloc: Global, given: &Given) -> Result<Term, Cause> {
@@ -44,11 +45,13 @@ fn stands(symbols: &Symbols, value: Value, term: &Term) -> bool {
 fn numbered_in(alloc: Global, symbols: &mut Symbols, given: &Given) -> Result<Vec<u8>, Cause> {
     let value = value_in(alloc, symbols, given)?;
     let term = term_of(alloc, given)?;
-    if stands(symbols, value, &term) {
-        shown(format!(in alloc; "{value:?} "))
-    } else {
-        shown(format!(in alloc; "another {value:?} "))
+    let mut out = Vec::new(alloc);
+    if !stands(symbols, value, &term) {
+        out.extend_from_slice(b"another ")?;
     }
+    put_value(&mut out, value)?;
+    out.push(b' ')?;
+    Ok(out)
 }
 
 /// The values of terms, one after another in one table, and how many the table has, as `Sym(0) Num(-3) 1`.
@@ -117,8 +120,13 @@ fn binding_of(alloc: Global, symbols: &mut Symbols, given: &[Given]) -> Result<V
 /// The value of an expression under a binding, or why it has none.
 fn value_of(alloc: Global, tree: &Expr, binding: &[Value]) -> Result<Vec<u8>, Cause> {
     match eval(tree, binding) {
-        Ok(value) => shown(format!(in alloc; "{value:?}")),
-        Err(fault) => shown(format!(in alloc; "{fault:?}")),
+        Ok(value) => {
+            let mut out = Vec::new(alloc);
+            put_value(&mut out, value)?;
+            Ok(out)
+        }
+        Err(EvalFault::Undefined) => Ok(Vec::from_slice(alloc, b"Undefined")?),
+        Err(EvalFault::Range) => Ok(Vec::from_slice(alloc, b"Range")?),
     }
 }
 

@@ -1,6 +1,7 @@
 //! Calls of the layer of expressions and formulas.
 ghost use Rattle.std.specs.Prelude.{◌+◌, ◌^◌, ◌<◌, ◌≤◌, vec_len, length, IfOk};
 
+use crate::prefix::{put_expr, put_formula};
 use crate::shown::shown;
 use crate::tokens::text_of;
 use formula_syntax::{FormulaFault, Names, expr, formula};
@@ -43,7 +44,11 @@ pub fn expression(alloc: Global, given: &[Value]) -> Result<Vec<u8>, Cause> {
     let tokens = tokens_of(alloc, text.as_slice())?;
     let mut names = Names::new(alloc);
     match expr(alloc, tokens.as_slice(), 0, &mut names) {
-        Ok((tree, end)) => shown(format!(in alloc; "{end} {tree:?}")),
+        Ok((tree, end)) => {
+            let mut out = shown(format!(in alloc; "{end} "))?;
+            put_expr(&mut out, &tree)?;
+            Ok(out)
+        }
         Err(fault) => refused(alloc, fault),
     }
 }
@@ -54,7 +59,11 @@ pub fn formula_of(alloc: Global, given: &[Value]) -> Result<Vec<u8>, Cause> {
     let tokens = tokens_of(alloc, text.as_slice())?;
     let mut names = Names::new(alloc);
     match formula(alloc, tokens.as_slice(), 0, &mut names) {
-        Ok((tree, end)) => shown(format!(in alloc; "{end} {tree:?}")),
+        Ok((tree, end)) => {
+            let mut out = shown(format!(in alloc; "{end} "))?;
+            put_formula(&mut out, &tree)?;
+            Ok(out)
+        }
         Err(fault) => refused(alloc, fault),
     }
 }

@@ -4,7 +4,7 @@ use sqlite_items::Items;
 use tel_base::Lit;
 
 /// What the body of a module is for.
-#[derive(Clone, Copy, Debug, PartialEq, Eq)]
+#[derive(Clone, Copy, PartialEq, Eq)]
 pub enum BodyHead {
     /// This variable follows.
     Normal(u32),
@@ -19,7 +19,7 @@ pub enum BodyHead {
 }
 
 /// A body of a module: the variable that stands for it, its literals, and what it is for.
-#[derive(Debug, Drop)]
+#[derive(Drop)]
 pub struct BodyDef {
     pub var: u32,
     pub lits: Items<Lit>,
@@ -27,7 +27,7 @@ pub struct BodyDef {
 }
 
 /// What is said of one state: the program of a length is made of the modules of its states.
-#[derive(Debug, Drop)]
+#[derive(Drop)]
 pub struct StepModule {
     /// The state, from 0.
     pub t: u32,
@@ -49,7 +49,7 @@ pub struct StepModule {
 }
 
 /// What a module has besides its rules and its number.
-#[derive(Debug, Drop)]
+#[derive(Drop)]
 pub struct ModuleParts {
     pub bodies: Items<BodyDef>,
     pub nodes: Items<NodeRule>,

@@ -7,7 +7,7 @@ use tel_base::{Lit, Memory};
 
 /// A rule. Its head follows where all variables of `pos` are true and none of `neg` is. With `choice` it
 /// may follow or not; without a head the rule is a constraint, whose body must be false.
-#[derive(Debug, Drop)]
+#[derive(Drop)]
 pub struct NRule {
     pub head: Option<u32>,
     pub choice: bool,

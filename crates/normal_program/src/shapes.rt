@@ -8,7 +8,7 @@ use std::alloc::Global;
 use tel_base::{Lit, Memory};
 
 /// When the variable of a node is true, by the literals that it hangs on.
-#[derive(Debug, Drop)]
+#[derive(Drop)]
 pub enum Shape {
     True,
     False,
@@ -27,7 +27,7 @@ pub enum Shape {
 }
 
 /// The variable of a node, and its shape.
-#[derive(Debug, Drop)]
+#[derive(Drop)]
 pub struct NodeRule {
     pub var: u32,
     pub shape: Shape,

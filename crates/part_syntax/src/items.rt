@@ -17,7 +17,7 @@ use sqlite_items::Items;
 use tel_rule::{Fact, Head, Kind, Literal, Part, Signature};
 
 /// An item of a text: the part of the statements behind it, or what a statement says.
-#[derive(Debug, Drop)]
+#[derive(Drop)]
 pub enum Item {
     InPart(Part),
     Says(Kind),

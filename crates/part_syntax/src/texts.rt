@@ -15,7 +15,7 @@ use tel_base::{Place, Text};
 use tel_rule::{Part, Statement};
 
 /// An item, with the place of its first token and variables of its own.
-#[derive(Debug, Drop)]
+#[derive(Drop)]
 pub struct Stated {
     place: Place,
     vars: Items<Text>,

@@ -3,7 +3,7 @@ use tel_rule::Relation;
 use tel_term::Expr;
 
 /// What a plan asks for.
-#[derive(Debug, Drop)]
+#[derive(Drop)]
 pub enum Goal<'a> {
     /// The values at these places are a row of this predicate.
     Row(u32, Items<u32>),

@@ -4,7 +4,7 @@ use tel_rule::Relation;
 use tel_term::Expr;
 
 /// A step of a plan.
-#[derive(Debug, Drop)]
+#[derive(Drop)]
 pub enum Step<'a> {
     /// The values at the places of the columns are a row of this predicate.
     Row(u32, Items<Column>),

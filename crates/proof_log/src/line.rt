@@ -7,7 +7,7 @@ use thiserror::Error;
 ///
 /// It has the form of a line where its lengths are at least 1, its clause and its set aren't empty,
 /// and the variables of each strictly rise and are below 4294967295.
-#[derive(Debug, Drop)]
+#[derive(Drop)]
 pub enum Line {
     /// A length begins.
     Length(u32),
@@ -28,7 +28,7 @@ pub enum Line {
 }
 
 /// The kinds of lines that have a clause alone.
-#[derive(Clone, Copy, Debug, PartialEq, Eq)]
+#[derive(Clone, Copy, PartialEq, Eq)]
 pub enum Kind {
     /// `m`, a clause of a module.
     Module,

@@ -10,7 +10,7 @@ use tel_rule::{Formula, Head, LitItem, Literal};
 use tel_term::Expr;
 
 /// An expression that is no value or variable alone, so that it may have a fault.
-#[derive(Clone, Copy, Debug)]
+#[derive(Clone, Copy)]
 pub struct Operation<'a> {
     pub expr: &'a Expr,
 }

@@ -14,7 +14,7 @@ use tel_rule::{Atom, LitItem, Literal, Relation};
 use tel_term::Expr;
 
 /// A rule of binding: its variable is bound where all are that it needs.
-#[derive(Debug, Drop)]
+#[derive(Drop)]
 pub struct BindingRule {
     pub var: u32,
     pub needs: Items<u32>,

@@ -14,7 +14,7 @@ use tel_base::{HashKey, Memory, Text};
 use tel_rule::{Arg, Atom, Fact, Head, Kind, Part, Signature, Statement};
 
 /// A predicate without its name.
-#[derive(Clone, Copy, Debug, PartialEq, Eq, Hash)]
+#[derive(Clone, Copy, PartialEq, Eq, Hash)]
 pub struct Form {
     pub negative: bool,
     pub arity: usize,

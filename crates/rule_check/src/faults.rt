@@ -1,7 +1,7 @@
 use tel_base::{Place, Text};
 
 /// Why a program is refused. A place is that of the first token of the statement.
-#[derive(Debug, Drop)]
+#[derive(Drop)]
 pub enum CheckFault {
     /// A variable of the statement isn't bound; the first one is named.
     Unbound(Place, Text),

@@ -16,7 +16,7 @@ use tel_rule::{Kind, Program, Statement};
 use tel_term::{Symbols, Term, Value};
 
 /// Why a program has no constants.
-#[derive(Clone, Copy, Debug, PartialEq, Eq)]
+#[derive(Clone, Copy, PartialEq, Eq)]
 pub enum ConstantsFault {
     /// The statement with this number defines a name that an earlier one defines, or its constant has
     /// no value.

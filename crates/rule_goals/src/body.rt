@@ -18,7 +18,7 @@ use tel_rule::Literal;
 
 /// What plans for a rule ask for, and how many places they have: one for each variable, and one for each
 /// argument of a table atom that is none.
-#[derive(Debug, Drop)]
+#[derive(Drop)]
 pub struct RuleGoals<'a> {
     pub goals: Vec<Goal<'a>>,
     pub places: u32,

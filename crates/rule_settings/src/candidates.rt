@@ -12,7 +12,7 @@ use tel_term::Expr;
 
 /// A setting equation: the variable that it binds, by its number, and the other side, whose value the
 /// variable gets.
-#[derive(Clone, Copy, Debug)]
+#[derive(Clone, Copy)]
 pub struct Setting<'a> {
     pub var: u32,
     pub value: &'a Expr,

@@ -18,6 +18,12 @@ pub record Outgoing : Type 0 where
   pub held : Option (List ℕ)
   pub faults : ℕ
 
+-- a file was made, the bytes that it holds, where it tells them, and how many calls with it failed
+pub record Written : Type 0 where
+  pub made : Bool
+  pub held : Option (List ℕ)
+  pub faults : ℕ
+
 -- the next call with this piece fails: its number is listed, or there is a byte and no room for it
 abbrev pub write_fails : Taken → List ℕ → Bool
 write_fails taken piece =

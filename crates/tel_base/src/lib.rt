@@ -3,6 +3,7 @@
 #![tactic(auto)]
 
 mod edge;
+mod file_sink;
 mod keys;
 mod literals;
 mod outside;
@@ -13,6 +14,7 @@ mod texts;
 mod writing;
 
 pub use edge::{FileSource, OutSink};
+pub use file_sink::FileSink;
 pub use keys::HashKey;
 pub use literals::{Clause, Lit};
 pub use outside::{Failed, Memory, Sink, Source};

@@ -12,7 +12,7 @@ use std::marker::Model;
 
 /// A run of bytes: a name, a string or the text of a file. Contracts see it as the list of its
 /// bytes.
-#[derive(Debug, Drop)]
+#[derive(Drop)]
 pub struct Text {
     bytes: Vec<u8>,
 }

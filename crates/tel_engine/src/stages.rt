@@ -1,5 +1,5 @@
 /// What an engine may do next.
-#[derive(Clone, Copy, Debug, PartialEq, Eq)]
+#[derive(Clone, Copy, PartialEq, Eq)]
 pub enum Stage {
     /// Its length may be listed, or it may be extended once more.
     Extended,

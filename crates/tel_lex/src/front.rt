@@ -16,7 +16,7 @@ use memchr::{memchr, memchr3};
 const GREATEST: u64 = 2147483647;
 
 /// What stands at the front of a text.
-#[derive(Clone, Copy, Debug)]
+#[derive(Clone, Copy)]
 pub enum Front {
     /// White space or a comment, of so many bytes.
     Gap(usize),

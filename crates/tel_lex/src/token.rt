@@ -2,7 +2,7 @@ use crate::fault::LexFault;
 use tel_base::Place;
 
 /// What kind of token it is.
-#[derive(Clone, Copy, Debug, PartialEq, Eq)]
+#[derive(Clone, Copy, PartialEq, Eq)]
 pub enum TokenKind {
     /// A lower-case letter, then letters, digits and `_`.
     Name,
@@ -21,7 +21,7 @@ pub enum TokenKind {
 }
 
 /// A token: its kind, its bytes, which are a part of the text, and the place of the first of them.
-#[derive(Clone, Copy, Debug)]
+#[derive(Clone, Copy)]
 pub struct Token<'a> {
     pub kind: TokenKind,
     pub text: &'a [u8],
@@ -30,7 +30,7 @@ pub struct Token<'a> {
 
 /// The tokens of a file before its first lexical fault, that fault, which is never want of memory,
 /// and the place after the last byte.
-#[derive(Debug, Drop)]
+#[derive(Drop)]
 pub struct Lexed<'a> {
     pub tokens: Vec<Token<'a>>,
     pub fault: Option<LexFault>,

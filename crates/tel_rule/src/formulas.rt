@@ -4,7 +4,7 @@ use tel_term::Expr;
 
 /// An atom as it is read: with `negative` it is strongly negated; `before` and `after` count its
 /// leading and trailing primes.
-#[derive(Debug, Drop)]
+#[derive(Drop)]
 pub struct Atom {
     pub negative: bool,
     pub before: u32,
@@ -14,7 +14,7 @@ pub struct Atom {
 }
 
 /// A constant formula.
-#[derive(Clone, Copy, Debug, PartialEq, Eq)]
+#[derive(Clone, Copy, PartialEq, Eq)]
 pub enum ConstOp {
     True,
     False,
@@ -26,7 +26,7 @@ pub enum ConstOp {
 
 /// An operator before one formula. Those of the past look from the present instant back, those of the
 /// future on to the end of the trace.
-#[derive(Clone, Copy, Debug, PartialEq, Eq)]
+#[derive(Clone, Copy, PartialEq, Eq)]
 pub enum UnaryOp {
     Not,
     Previous,
@@ -42,7 +42,7 @@ pub enum UnaryOp {
 }
 
 /// An operator between two formulas.
-#[derive(Clone, Copy, Debug, PartialEq, Eq)]
+#[derive(Clone, Copy, PartialEq, Eq)]
 pub enum BinaryOp {
     Since,
     Trigger,
@@ -54,14 +54,14 @@ pub enum BinaryOp {
 }
 
 /// An operator of a chain of formulas.
-#[derive(Clone, Copy, Debug, PartialEq, Eq)]
+#[derive(Clone, Copy, PartialEq, Eq)]
 pub enum ManyOp {
     And,
     Or,
 }
 
 /// A temporal formula. A chain of conjunctions or of disjunctions is one node.
-#[derive(Debug, Drop)]
+#[derive(Drop)]
 pub enum Formula {
     Const(ConstOp),
     Atom(Atom),

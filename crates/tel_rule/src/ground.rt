@@ -6,7 +6,7 @@ use tel_term::{Symbols, Value};
 
 /// An atom of an instantiated program; with `negative` it is strongly negated. Its name is the number
 /// of a name among the symbols.
-#[derive(Debug, Drop)]
+#[derive(Drop)]
 pub struct GroundAtom {
     pub negative: bool,
     pub name: u32,
@@ -14,7 +14,7 @@ pub struct GroundAtom {
 }
 
 /// An instance of a statement, whose atoms and nodes are numbers.
-#[derive(Debug, Drop)]
+#[derive(Drop)]
 pub struct Instance {
     /// The number of its statement in the program, from 0.
     pub statement: u32,
@@ -24,7 +24,7 @@ pub struct Instance {
 }
 
 /// What an instance derives. With `after` it is derived at the next instant.
-#[derive(Clone, Copy, Debug, PartialEq, Eq)]
+#[derive(Clone, Copy, PartialEq, Eq)]
 pub enum GroundHead {
     Normal { atom: u32, after: bool },
     Choice { atom: u32, after: bool },
@@ -32,7 +32,7 @@ pub enum GroundHead {
 }
 
 /// A literal of a body; with `positive` false, the default negation of its item.
-#[derive(Clone, Copy, Debug, PartialEq, Eq)]
+#[derive(Clone, Copy, PartialEq, Eq)]
 pub struct BodyLit {
     pub positive: bool,
     pub item: BodyItem,
@@ -40,7 +40,7 @@ pub struct BodyLit {
 
 /// What a literal looks at: an atom at the same instant, an atom one instant before, or the formula of
 /// a node at the same instant.
-#[derive(Clone, Copy, Debug, PartialEq, Eq)]
+#[derive(Clone, Copy, PartialEq, Eq)]
 pub enum BodyItem {
     Atom(u32),
     Before(u32),
@@ -48,7 +48,7 @@ pub enum BodyItem {
 }
 
 /// Which atoms are printed: all, or those with these numbers, which rise.
-#[derive(Debug, Drop)]
+#[derive(Drop)]
 pub enum Show {
     All,
     Only(Items<u32>),

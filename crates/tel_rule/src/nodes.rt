@@ -2,7 +2,7 @@ use crate::formulas::{BinaryOp, ConstOp, ManyOp, UnaryOp};
 use sqlite_items::Items;
 
 /// A node of a formula: an operator over its children, which are atoms or nodes after it.
-#[derive(Debug, Drop)]
+#[derive(Drop)]
 pub struct Node {
     pub op: NodeOp,
     /// None of a constant, one of a unary operator, two of a binary one, any number of a chain.
@@ -10,7 +10,7 @@ pub struct Node {
 }
 
 /// The operator of a node.
-#[derive(Clone, Copy, Debug, PartialEq, Eq)]
+#[derive(Clone, Copy, PartialEq, Eq)]
 pub enum NodeOp {
     Const(ConstOp),
     Unary(UnaryOp),
@@ -20,7 +20,7 @@ pub enum NodeOp {
 }
 
 /// A child of a node: the number of an atom, or of a node.
-#[derive(Clone, Copy, Debug, PartialEq, Eq)]
+#[derive(Clone, Copy, PartialEq, Eq)]
 pub enum Kid {
     Atom(u32),
     Node(u32),

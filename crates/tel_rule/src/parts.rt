@@ -1,5 +1,5 @@
 /// At which instants of a trace a statement is demanded.
-#[derive(Clone, Copy, Debug, PartialEq, Eq)]
+#[derive(Clone, Copy, PartialEq, Eq)]
 pub enum Part {
     /// At instant 0.
     Initial,

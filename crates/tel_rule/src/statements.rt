@@ -5,7 +5,7 @@ use tel_base::{Place, Text};
 use tel_term::{Expr, Symbols};
 
 /// What a rule derives.
-#[derive(Debug, Drop)]
+#[derive(Drop)]
 pub enum Head {
     /// The atom.
     Normal(Atom),
@@ -16,7 +16,7 @@ pub enum Head {
 }
 
 /// How the two sides of a comparison are to stand to one another, in the order of terms.
-#[derive(Clone, Copy, Debug, PartialEq, Eq)]
+#[derive(Clone, Copy, PartialEq, Eq)]
 pub enum Relation {
     Equal,
     Unequal,
@@ -27,7 +27,7 @@ pub enum Relation {
 }
 
 /// What a literal of a body speaks of.
-#[derive(Debug, Drop)]
+#[derive(Drop)]
 pub enum LitItem {
     Atom(Atom),
     /// A temporal formula, `&tel { .. }`.
@@ -36,14 +36,14 @@ pub enum LitItem {
 }
 
 /// A literal of a body, behind so many `not`, of which there are at most two; a comparison has none.
-#[derive(Debug, Drop)]
+#[derive(Drop)]
 pub struct Literal {
     pub nots: u32,
     pub item: LitItem,
 }
 
 /// An argument of a fact: an expression, or the numbers from one to another.
-#[derive(Debug, Drop)]
+#[derive(Drop)]
 pub enum Arg {
     One(Expr),
     Range(Expr, Expr),
@@ -51,7 +51,7 @@ pub enum Arg {
 
 /// A fact, with its strong negation and its primes, and a tuple of arguments for each atom that it
 /// states. A fact without brackets has one empty tuple.
-#[derive(Debug, Drop)]
+#[derive(Drop)]
 pub struct Fact {
     pub negative: bool,
     pub before: u32,
@@ -61,7 +61,7 @@ pub struct Fact {
 }
 
 /// A predicate: a name, whether it is strongly negated, and a number of arguments.
-#[derive(Debug, Drop, PartialEq, Eq, Hash)]
+#[derive(Drop, PartialEq, Eq, Hash)]
 pub struct Signature {
     pub negative: bool,
     pub name: Text,
@@ -69,7 +69,7 @@ pub struct Signature {
 }
 
 /// What a statement says.
-#[derive(Debug, Drop)]
+#[derive(Drop)]
 pub enum Kind {
     /// A rule, a choice or a constraint.
     Rule(Head, Items<Literal>),
@@ -82,7 +82,7 @@ pub enum Kind {
 
 /// A statement: the place of its first token, the part that it is of, and its variables in the order
 /// of their first occurrence. Each `_` is a variable of its own, with the name `_`.
-#[derive(Debug, Drop)]
+#[derive(Drop)]
 pub struct Statement {
     pub place: Place,
     pub part: Part,

@@ -3,7 +3,7 @@ use std::marker::Model;
 
 /// A trace: its states from 0 on, each the numbers of the atoms that are true there, which strictly
 /// rise. Contracts see it as the list of its states.
-#[derive(Debug, Drop)]
+#[derive(Drop)]
 pub struct Trace {
     pub states: Items<Items<u32>>,
 }

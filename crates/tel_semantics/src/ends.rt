@@ -1,5 +1,5 @@
 /// How the listing of a length ended.
-#[derive(Clone, Copy, Debug, PartialEq, Eq)]
+#[derive(Clone, Copy, PartialEq, Eq)]
 pub enum How {
     /// All its traces were printed.
     Complete,

@@ -7,7 +7,7 @@ use tel_base::Memory;
 use thiserror::Error;
 
 /// A word of the command line. Contracts see it as the list of its bytes.
-#[derive(Debug, Drop)]
+#[derive(Drop)]
 pub struct Word {
     text: String,
 }
@@ -38,7 +38,7 @@ impl Word {
 }
 
 /// After which length a run stops, once its least length is reached.
-#[derive(Clone, Copy, Debug, PartialEq, Eq)]
+#[derive(Clone, Copy, PartialEq, Eq)]
 pub enum Stop {
     /// After a length at which a trace was printed.
     Sat,
@@ -49,7 +49,7 @@ pub enum Stop {
 }
 
 /// Where the texts of a run come from.
-#[derive(Debug, Drop)]
+#[derive(Drop)]
 pub enum Input {
     /// These files, in this order. The name `-` is standard input.
     Files(Items<Word>),
@@ -58,7 +58,7 @@ pub enum Input {
 }
 
 /// What the words of the command line say of a run.
-#[derive(Debug, Drop)]
+#[derive(Drop)]
 pub struct Settings {
     /// The least length after which the run may stop, 0 to 1000.
     pub imin: u32,

@@ -8,7 +8,7 @@ use crate::exprs::{Expr, ProductOp, SumOp};
 use crate::terms::Value;
 
 /// Why an expression has no value.
-#[derive(Clone, Copy, Debug, PartialEq, Eq)]
+#[derive(Clone, Copy, PartialEq, Eq)]
 pub enum EvalFault {
     /// An operation on a name or a string, or a division or a remainder by 0.
     Undefined,

@@ -13,7 +13,7 @@ use tel_base::{Source, Text};
 use tel_settings::Word;
 
 /// Why the texts weren't read.
-#[derive(Clone, Copy, Debug, PartialEq, Eq)]
+#[derive(Clone, Copy, PartialEq, Eq)]
 pub enum FilesFault {
     /// They have together more bytes than they may have.
     Large,

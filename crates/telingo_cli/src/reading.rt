@@ -7,7 +7,7 @@ use std::alloc::{AllocError, Global};
 use tel_base::{Source, Text};
 
 /// Why a text wasn't read.
-#[derive(Clone, Copy, Debug, PartialEq, Eq)]
+#[derive(Clone, Copy, PartialEq, Eq)]
 pub enum TextFault {
     /// It has more bytes than it may have.
     Large,

@@ -15,7 +15,7 @@ use tel_settings::{Settings, stops};
 use unfounded_sets::LeastScan;
 
 /// Why a run was cut short.
-#[derive(Clone, Copy, Debug, PartialEq, Eq)]
+#[derive(Clone, Copy, PartialEq, Eq)]
 pub enum RunFault {
     /// A write failed.
     Write,

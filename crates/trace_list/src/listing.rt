@@ -24,7 +24,7 @@ use unfounded_sets::Founded;
 ///
 /// The search over which it goes is passed to each call. Contracts see the variables of the states, the length, the budget of
 /// clauses, and where the listing stands.
-#[derive(Debug, Drop)]
+#[derive(Drop)]
 pub struct Listing {
     space: AtomSpace,
     n: u32,

@@ -3,7 +3,7 @@
 use tel_rule::Trace;
 
 /// Where a listing stands.
-#[derive(Clone, Copy, Debug)]
+#[derive(Clone, Copy)]
 pub enum Stage {
     /// The next trace is still to be found.
     Seeking,
@@ -16,7 +16,7 @@ pub enum Stage {
 }
 
 /// The answer of a listing.
-#[derive(Debug, Drop)]
+#[derive(Drop)]
 pub enum Next {
     /// The next trace of the length.
     Trace(Trace),

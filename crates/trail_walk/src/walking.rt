@@ -16,7 +16,7 @@ use tel_base::Lit;
 use watch_propagate::{Propagated, propagate};
 
 /// Where a walk ends.
-#[derive(Clone, Copy, Debug)]
+#[derive(Clone, Copy)]
 pub enum Walked {
     /// This clause is false.
     Conflict(ClauseId),

@@ -7,7 +7,7 @@ use tel_base::{Clause, Memory};
 
 /// An unfounded set, a true variable in it, and a loop clause of both that is false. The numbers of the set and the variables of the
 /// clause strictly rise.
-#[derive(Debug, Drop)]
+#[derive(Drop)]
 pub struct LoopNogood {
     pub atom: u32,
     pub set: Vec<u32>,

@@ -6,14 +6,14 @@ use std::marker::Model;
 use tel_base::Memory;
 
 /// A rule by its number, and at which positive atom of its body it waits.
-#[derive(Clone, Copy, Debug)]
+#[derive(Clone, Copy)]
 pub struct Wait {
     pub rule: usize,
     pub place: usize,
 }
 
 /// A wait, and the number of the link with the next one for the same variable; 0 where there is none.
-#[derive(Clone, Copy, Debug)]
+#[derive(Clone, Copy)]
 pub struct Link {
     pub wait: Wait,
     pub next: usize,

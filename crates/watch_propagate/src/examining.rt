@@ -7,7 +7,7 @@ use lit_trail::Trail;
 use tel_base::Lit;
 
 /// What a clause is under a trail.
-#[derive(Clone, Copy, Debug)]
+#[derive(Clone, Copy)]
 pub enum Examined {
     /// Each literal is false.
     False,

@@ -12,7 +12,7 @@ use clause_store::{ClauseId, Store};
 use lit_trail::Trail;
 
 /// The outcome of propagation.
-#[derive(Clone, Copy, Debug)]
+#[derive(Clone, Copy)]
 pub enum Propagated {
     /// The trail is closed under the unit rule.
     Quiet,
