@@ -7,15 +7,16 @@ use Rattle.normal_program.specs.Grounds.{Layers}
 use Rattle.clause_store.specs.declared.store.ClauseId.{ClauseId}
 use Rattle.clause_store.specs.Held as held
 use Rattle.clause_store.specs.Held.{Held, is_clause}
-use Rattle.clause_store.specs.Closure.{Absorbed, Conflict, negations}
+use Rattle.clause_store.specs.Closure.{Clause, Absorbed, Conflict, negations}
 use Rattle.lit_trail.specs.Entries as trails
 use Rattle.search_laws.specs.Lengths.{length_of}
 use Rattle.search_laws.specs.Origins.{Kept, lits_of}
-use Rattle.search_laws.specs.Needed.{Needed}
+use Rattle.search_laws.specs.Needed.{Needed, IsCut}
 use Rattle.unfounded_sets.specs.LoopClauses.{IsLoopClause, among}
 use Rattle.cdcl_search.specs.declared.loops.LoopSet.{LoopSet}
+use Rattle.cdcl_search.specs.declared.steps.Step.TheVariants as steps
 use Rattle.cdcl_search.specs.Searches.{Begun, View, kept_of, view_of}
-use Rattle.cdcl_search.specs.Steps.{IsOfModules, IsNeeded, HoldsSame, IsLearntOne, IsLoopOne, IsOneMore, AtLength}
+use Rattle.cdcl_search.specs.Steps.{IsOfModules, IsNeeded, CutsWalk, HoldsSame, IsLearntOne, IsLoopOne, IsOneMore, Allows, Steps, AtLength}
 
 -- the same rules and parts, clauses, variables, and sets of loop clauses
 pub record IsAlike (old new : View) : Type 0 where
@@ -45,6 +46,9 @@ of_alike old new begun steps same of = record {
 pub needed_alike : (old new : View) (begun : Begun) → IsAlike old new → IsNeeded new begun → IsNeeded old begun
 needed_alike old new begun same needed steps of = subst (λ (ks : List Kept). Needed (length_of steps begun.n) (lits_of ks)) same.kept (needed steps (of_alike old new begun steps same of))
 
+pub cuts_alike : (old new : View) (begun : Begun) (clause : Clause) → IsAlike old new → CutsWalk new begun clause → CutsWalk old begun clause
+cuts_alike old new begun clause same cuts steps of = subst (λ (ks : List Kept). IsCut (length_of steps begun.n) (lits_of ks) clause) same.kept (cuts steps (of_alike old new begun steps same of))
+
 learnt_alike : (old new later : View) (one : Kept) → IsAlike old new → IsLearntOne new later one → IsLearntOne old later one
 learnt_alike old new later one same is = record {
   kind = is.kind;
@@ -73,6 +77,11 @@ one_alike old new later begun id same is = record {
   free = subst (λ (ks : List Kept). Absorbed (lits_of ks) is.one.lits → ⊥) same.kept is.free;
   count = is.count;
 }
+
+-- and it cuts the walk
+pub added_alike : (old new later : View) (begun : Begun) (id : ClauseId) (budget : Option ℕ) → IsAlike old new → (more : IsOneMore new later begun id) → Allows budget begun.counted → CutsWalk old begun more.one.lits → Steps old later begun budget (steps.Added id)
+unfolding one_alike
+added_alike old new later begun id budget same more allows cuts = (one_alike old new later begun id same more, allows, cuts)
 
 -- what is said of the length that a search is at
 pub at_begun : (P : View → Begun → Type 0) (old now : View) (begun : Begun) → old ≡ now → old.begun ≡ Some begun → P old begun → AtLength now.begun (P now)

@@ -30,7 +30,7 @@ pub closed_of : (clauses : List Clause) (begun : Begun) (trail : View) (id : Cla
 closed_of clauses begun trail id ends one = ⊎_elim (λ c. c.1) (λ s. absurd (let l = s.0 in omega (arith, l, one))) ends
 
 pub stuck_of : (clauses : List Clause) (begun : Begun) (trail : View) (id : ClauseId) → WalkEnds clauses (walk_length begun) trail (outcomes.Conflict id) → (trail.level ≡ 1 → ⊥) → IsOnWay (walk_length begun) trail → IsStuck clauses begun trail
-stuck_of clauses begun trail id ends other way = ⊎_elim (λ c. absurd (other c.0)) (λ s. record { level = s.0; way = way; decisions = s.1.0; walk = s.1.1 }) ends
+stuck_of clauses begun trail id ends other way = ⊎_elim (λ c. absurd (other c.0)) (λ s. record { level = s.0; way = way; decisions = s.1.0; walk = s.1.1; derived = s.1.2 }) ends
 
 pub on_way : (begun : Begun) (trail : View) → IsUnderWay begun trail → 0 < trail.level → IsOnWay (walk_length begun) trail
 on_way begun trail way l = ⊎_elim (λ z. absurd (omega (arith, z, l))) (λ w. w) way

@@ -4,12 +4,12 @@ use Rattle.std.specs.Prelude.{Option, Some, None, is_some, nat_lt}
 use Rattle.std.specs.List.{find}
 use Rattle.std.proofs.lemmas.Bool.{or_left, or_right, cond-true, cond-false, false≢true, cases_Bool}
 use Rattle.tel_base.specs.declared.literals.Lit.{Lit}
-use Rattle.tel_base.specs.Literals.{lit_of}
-use Rattle.tel_base.proofs.Members.{In}
+use Rattle.tel_base.specs.Literals.{lit_of, negate}
+use Rattle.tel_base.proofs.Members.{In, In-list_all}
 use Rattle.normal_program.specs.declared.modules.StepModule.{StepModule}
 use Rattle.normal_program.specs.ModuleClauses.{no_lit}
 use Rattle.normal_program.specs.Grounds.{Layers}
-use Rattle.clause_store.specs.Closure.{IsClosure}
+use Rattle.clause_store.specs.Closure.{Clause, refutes, IsClosure}
 use Rattle.clause_store.proofs.Levels.{closure_closed}
 use Rattle.lit_trail.specs.declared.assignment.Entry.{Entry}
 use Rattle.lit_trail.specs.declared.assignment.Spot.{Spot}
@@ -22,7 +22,7 @@ use Rattle.lit_trail.proofs.LevelSteps.{back_all}
 use Rattle.search_laws.specs.Lengths.{Length, length_of}
 use Rattle.search_laws.specs.Levels.{AreDecisions}
 use Rattle.search_laws.specs.Walks.{IsStuckWalk}
-use Rattle.search_laws.specs.Needed.{IsFound, Needed}
+use Rattle.search_laws.specs.Needed.{IsFound, Needed, IsCut}
 use Rattle.search_laws.specs.Founded.{IsTotalAt, true_set}
 use Rattle.search_laws.specs.Gaps.{has_value, IsVisibleTotal}
 use Rattle.search_laws.proofs.TrailLevels.{levels_are_total}
@@ -38,7 +38,7 @@ use Rattle.cdcl_search.proofs.Ends.{min_left}
 use Rattle.cdcl_search.specs.Searches as searches
 use Rattle.cdcl_search.specs.Searches.{Begun, clauses_of, visible_of, ending_of, walk_length, IsLength}
 use Rattle.cdcl_search.specs.Advancing.{IsStuck, IsTotal}
-use Rattle.cdcl_search.specs.Steps.{IsOfModules, IsNeeded}
+use Rattle.cdcl_search.specs.Steps.{IsOfModules, IsNeeded, CutsWalk}
 
 -- ---- the way of a length
 
@@ -133,7 +133,27 @@ module _ (search : searches.View) (begun : Begun) (sound : IsSound (clauses_of s
       let entries = search.trail.entries in
       inr (way.decisions, true_set (length_of steps begun.n) entries, trail_is_unstable steps begun.n of.plain (clauses_of search) entries way.last way.decisions (among nogood.set.items) nogood.atom at_total (subst (λ (layers : Layers). IsUnfounded layers entries (among nogood.set.items)) (sym of.ground) false_loop.unfounded) false_loop.loop.within false_loop.holds)
 
+  -- a clause that is false under the trail cuts the walk
+  pub cuts_at : (nogood : LoopNogood) → IsFalseLoop search.ground search.trail.entries nogood → (clause : Clause) → refutes (holds search.trail.entries) clause ≡ true → IsCut (length_of steps begun.n) (clauses_of search) clause
+  cuts_at nogood false_loop clause refuted =
+      let entries = search.trail.entries in
+      inr (
+        way.decisions,
+        true_set (length_of steps begun.n) entries,
+        trail_is_unstable steps begun.n of.plain (clauses_of search) entries way.last way.decisions (among nogood.set.items) nogood.atom at_total (subst (λ (layers : Layers). IsUnfounded layers entries (among nogood.set.items)) (sym of.ground) false_loop.unfounded) false_loop.loop.within false_loop.holds,
+        λ lit i. closure.derived (negate lit) (In-list_all (λ (k : Lit). holds entries (negate k)) lit clause refuted i),
+      )
+
 -- a stuck walk needs a clause
 pub stuck_needed : (search : searches.View) (begun : Begun) (trail : View) → IsStuck (clauses_of search) begun trail → IsNeeded search begun
 stuck_needed search begun trail stuck steps of =
     inl (stuck.decisions, subst (λ (vs : List ℕ). IsStuckWalk (clauses_of search) (length_of steps begun.n).ending vs stuck.decisions) (sym of.visible) (subst (λ (x : ℕ). IsStuckWalk (clauses_of search) x (visible_of begun) stuck.decisions) (sym of.ending) stuck.walk))
+
+-- and one that is false under the trail cuts it
+pub stuck_cuts : (search : searches.View) (begun : Begun) (trail : View) → IsStuck (clauses_of search) begun trail → (clause : Clause) → refutes (holds trail.entries) clause ≡ true → CutsWalk search begun clause
+stuck_cuts search begun trail stuck clause refuted steps of =
+    inl (
+      stuck.decisions,
+      subst (λ (vs : List ℕ). IsStuckWalk (clauses_of search) (length_of steps begun.n).ending vs stuck.decisions) (sym of.visible) (subst (λ (x : ℕ). IsStuckWalk (clauses_of search) x (visible_of begun) stuck.decisions) (sym of.ending) stuck.walk),
+      λ lit i. stuck.derived (negate lit) (In-list_all (λ (k : Lit). holds trail.entries (negate k)) lit clause refuted i),
+    )

@@ -7,7 +7,7 @@ use Rattle.lit_trail.specs.Sound.{IsClosedTrail}
 use Rattle.lit_trail.specs.Unassigned.{first_open}
 use Rattle.watch_propagate.specs.Propagation.{IsFalseClause}
 use Rattle.search_laws.specs.Walks.{IsClosedWalk, IsStuckWalk}
-use Rattle.trail_walk.specs.Ways.{IsOnWay}
+use Rattle.trail_walk.specs.Ways.{IsDerived, IsOnWay}
 use Rattle.cdcl_search.specs.declared.advancing.Advanced.{Advanced}
 use Rattle.cdcl_search.specs.declared.advancing.Advanced.TheVariants as ends
 use Rattle.cdcl_search.specs.Searches.{Begun, visible_of, ending_of, walk_length, IsUnderWay}
@@ -18,6 +18,7 @@ pub record IsStuck (clauses : List Clause) (begun : Begun) (trail : View) : Type
   pub way : IsOnWay (walk_length begun) trail
   pub decisions : List Lit
   pub walk : IsStuckWalk clauses (ending_of begun) (visible_of begun) decisions
+  pub derived : IsDerived clauses decisions trail.entries
 
 -- the trail is closed and gives each visible variable a value
 pub record IsTotal (clauses : List Clause) (begun : Begun) (trail : View) : Type 0 where

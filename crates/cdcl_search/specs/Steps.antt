@@ -10,13 +10,13 @@ use Rattle.normal_program.specs.StableSets.{Set}
 use Rattle.clause_store.specs.declared.store.ClauseId.{ClauseId}
 use Rattle.clause_store.specs.declared.store.ClauseKind.TheVariants as kinds
 use Rattle.clause_store.specs.Held.{is_clause}
-use Rattle.clause_store.specs.Closure.{Clause, Absorbed, Conflict, IsClosure}
+use Rattle.clause_store.specs.Closure.{Clause, refutes, Absorbed, Conflict, IsClosure}
 use Rattle.lit_trail.specs.Sound.{holds}
 use Rattle.model_block.specs.Blocking.{block_of}
 use Rattle.search_laws.specs.Lengths.{Length, length_of}
 use Rattle.search_laws.specs.Origins.{Kept, IsBlock}
 use Rattle.unfounded_sets.specs.LoopClauses.{IsLoopClause, among, rises}
-use Rattle.search_laws.specs.Needed.{IsFound, Needed}
+use Rattle.search_laws.specs.Needed.{IsFound, Needed, IsCut}
 use Rattle.search_laws.specs.Founded.{AreModules, true_set}
 use Rattle.search_laws.specs.Gaps.{AreRanked}
 use Rattle.search_laws.specs.Walks.{IsClosedWalk}
@@ -46,6 +46,10 @@ OfLengths search begun P = (steps : ℕ → StepModule) → IsOfModules search b
 -- a further clause is needed
 abbrev pub IsNeeded : View → Begun → Type 0
 IsNeeded search begun = OfLengths search begun (λ length. Needed length (clauses_of search))
+
+-- and this clause cuts the walk
+abbrev pub CutsWalk : View → Begun → Clause → Type 0
+CutsWalk search begun clause = OfLengths search begun (λ length. IsCut length (clauses_of search) clause)
 
 -- the trail is the closure of a walk that is total and stable
 abbrev pub IsAtFound : View → Begun → Type 0
@@ -80,6 +84,10 @@ pub record IsOneMore (old new : View) (begun : Begun) (id : ClauseId) : Type 0 w
   pub free : Absorbed (clauses_of old) one.lits → ⊥
   pub count : new.begun ≡ Some (record begun { counted = begun.counted + 1 })
 
+-- a clause more that is false under the trail
+abbrev pub IsFalseOne : View → View → Begun → ClauseId → Type 0
+IsFalseOne old new begun id = (more : IsOneMore old new begun id) × IsTrue (refutes (holds old.trail.entries) more.one.lits)
+
 -- a clause that blocks the walk that the trail is, with the set of its true variables
 pub record IsBlocked (old new : View) (begun : Begun) (id : ClauseId) : Type 0 where
   pub one : Kept
@@ -113,10 +121,10 @@ pub record HoldsSame (old new : View) : Type 0 where
   pub loops : new.loops ≡ old.loops
   pub begun : new.begun ≡ old.begun
 
--- a clause was added where one is needed and the budget allows it; or the walk is found, which is the trail; or it is closed; or a clause is needed and
+-- a clause was added where one is needed and the budget allows it, and it cuts the walk; or the walk is found, which is the trail; or it is closed; or a clause is needed and
 -- the budget is used up
 abbrev pub Steps : View → View → Begun → Option ℕ → Step → Type 0
-Steps old new begun budget (steps.Added id) = IsOneMore old new begun id × Allows budget begun.counted × IsNeeded old begun
+Steps old new begun budget (steps.Added id) = (more : IsOneMore old new begun id) × Allows budget begun.counted × CutsWalk old begun more.one.lits
 Steps old new begun budget steps.Found = HoldsSame old new × (0 < new.trail.level) × IsAtFound new begun
 Steps old new begun budget steps.Closed = HoldsSame old new × IsClosedWalk (clauses_of old) (ending_of begun)
 Steps old new begun budget steps.Spent = HoldsSame old new × IsUsedUp budget begun.counted × IsNeeded old begun

@@ -14,7 +14,7 @@ ghost use Rattle.watch_propagate.specs.Propagation.{IsFalseClause};
 ghost use Rattle.unfounded_sets.specs.LoopClauses.{IsFalseLoop};
 ghost use Rattle.search_laws.specs.Origins.{Kept};
 ghost use Rattle.cdcl_search.specs.Searches.{clauses_of, begun_at, vars_for, kept_of_module, IsAsBefore};
-ghost use Rattle.cdcl_search.specs.Steps.{Steps, AtLength, IsOneMore, IsBlocked, loop_set};
+ghost use Rattle.cdcl_search.specs.Steps.{Steps, AtLength, IsFalseOne, IsBlocked, loop_set};
 
 use crate::adding::{add_clauses, make_room, vars_for};
 use crate::advancing::{Advanced, advance};
@@ -199,7 +199,7 @@ impl<F: Founded + Drop> Search<F> {
         requires level { 1 < self.old.trail.level }
         ensures ground { self.new.ground ≡ self.old.ground }
         ensures vars { self.new.vars ≡ self.old.vars }
-        ensures added { IfOk result (λ id. IsOneMore self.old self.new begun id) }
+        ensures added { IfOk result (λ id. IsFalseOne self.old self.new begun id) }
     {
         self.lengths.reserve(1)?;
         let id = hold_learnt(
@@ -221,7 +221,7 @@ impl<F: Founded + Drop> Search<F> {
         requires nogood { IsFalseLoop self.old.ground self.old.trail.entries nogood }
         ensures ground { self.new.ground ≡ self.old.ground }
         ensures vars { self.new.vars ≡ self.old.vars }
-        ensures added { IfOk result (λ id. IsOneMore self.old self.new begun id) }
+        ensures added { IfOk result (λ id. IsFalseOne self.old self.new begun id) }
     {
         let _count = self.trail.len();
         self.lengths.reserve(1)?;

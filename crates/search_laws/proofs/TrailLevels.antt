@@ -187,12 +187,15 @@ levels_are_total length clauses entries m decisions walking none =
     let up = down length clauses entries m decisions walking m (omega arith) decisions [] decisions walking.decided (last, refl) in
     (record { begins = first.calm; goes = climb clauses length.visible (lit_of length.ending ∷ []) (holds (back 1 entries)) up.0 decisions first up.1 }, all_levels length clauses entries m decisions walking walking.decided)
 
+-- what is decided up to the level of the next decision follows from the decisions of the walk and this one
+pub next_decided : (length : Length) (clauses : List Clause) (entries : List Entry) (m v : ℕ) (decisions : List Lit) → IsWalking length clauses entries m decisions → decision_in entries (suc (suc m)) ≡ Some (no_lit v) → (lit : Lit) → In lit (decided_lits (back (suc (suc m)) entries)) → Up clauses (no_lit v ∷ decisions) lit
+next_decided length clauses entries m v decisions walking decision =
+    into length clauses entries (suc m) v decisions (all_levels length clauses entries m decisions walking walking.decided) (walking.closed (suc m) (omega arith) (omega arith)) walking.levels walking.opened decision
+
 pub levels_are_stuck : LevelsAreStuck
 levels_are_stuck length clauses entries m v decisions walking next decision clash =
     let first = first_closure length clauses entries m decisions walking in
-    let lower = all_levels length clauses entries m decisions walking walking.decided in
-    let closed = walking.closed (suc m) (omega arith) (omega arith) in
     let all = decided_lits (back (suc (suc m)) entries) in
-    let moved : Conflict clauses (no_lit v ∷ decisions) = conflict_grows clauses clauses all (no_lit v ∷ decisions) (λ c i. i) (into length clauses entries (suc m) v decisions lower closed walking.levels walking.opened decision) clash in
+    let moved : Conflict clauses (no_lit v ∷ decisions) = conflict_grows clauses clauses all (no_lit v ∷ decisions) (λ c i. i) (next_decided length clauses entries m v decisions walking decision) clash in
     let up = down_stuck length clauses entries m decisions walking m (omega arith) decisions [] (no_lit v ∷ decisions) walking.decided (v, next_open length clauses entries m v next, moved, refl) in
     record { begins = first.calm; goes = climb_stuck clauses length.visible (lit_of length.ending ∷ []) (holds (back 1 entries)) up.0 (no_lit v ∷ decisions) first up.1 }

@@ -1,7 +1,8 @@
 -- When a further clause is needed.
 use Rattle.std.specs.Prelude.{ℕ, List, IsTrue, ◌⊎◌}
 use Rattle.tel_base.specs.declared.literals.Lit.{Lit}
-use Rattle.tel_base.specs.Literals.{lit_of}
+use Rattle.tel_base.specs.Literals.{lit_of, negate}
+use Rattle.tel_base.specs.Members.{In}
 use Rattle.clause_store.specs.Closure.{Clause, Up}
 use Rattle.normal_program.specs.StableSets.{Set}
 use Rattle.search_laws.specs.Walks.{IsTotalWalk, IsStuckWalk}
@@ -30,3 +31,13 @@ abbrev pub Needed : Length → List Clause → Type 0
 Needed length clauses =
     ((decisions : List Lit) × IsStuckWalk clauses length.ending length.visible decisions)
     ⊎ ((decisions : List Lit) × (S : Set) × IsUnstable length clauses decisions S)
+
+-- the closure of the decisions negates each literal of the clause
+abbrev pub IsNegated : List Clause → List Lit → Clause → Type 0
+IsNegated clauses decisions clause = (lit : Lit) → In lit clause → Up clauses decisions (negate lit)
+
+-- a further clause is needed, and this one cuts the walk: the closure of the walk negates it whole
+abbrev pub IsCut : Length → List Clause → Clause → Type 0
+IsCut length clauses clause =
+    ((decisions : List Lit) × IsStuckWalk clauses length.ending length.visible decisions × IsNegated clauses decisions clause)
+    ⊎ ((decisions : List Lit) × (S : Set) × IsUnstable length clauses decisions S × IsNegated clauses decisions clause)

@@ -9,20 +9,21 @@ use Rattle.tel_base.specs.Members.{In}
 use Rattle.atom_space.specs.Numbers.{Space}
 use Rattle.clause_store.specs.declared.store.ClauseId.{ClauseId}
 use Rattle.clause_store.specs.Closure.{Clause, Up, Conflict, IsClosure}
-use Rattle.clause_store.proofs.Closures.{up_start}
+use Rattle.clause_store.proofs.Closures.{up_start, up_grows}
 use Rattle.normal_program.specs.ModuleClauses.{no_lit}
 use Rattle.lit_trail.specs.declared.assignment.Entry.{Entry}
 use Rattle.lit_trail.specs.Entries.{View, back}
 use Rattle.lit_trail.specs.Levels.{AreLevels, AreOpened}
 use Rattle.lit_trail.specs.Sound.{holds, decided_lits, IsClosedTrail, IsSound}
 use Rattle.lit_trail.specs.Unassigned.{is_open, first_open}
+use Rattle.lit_trail.proofs.Derived.{decided_up}
 use Rattle.lit_trail.proofs.LevelSteps.{back_all}
 use Rattle.watch_propagate.specs.Propagation.{IsFalseClause}
 use Rattle.search_laws.specs.Lengths.{Length}
 use Rattle.search_laws.specs.Levels.{AreDecisions, IsWalking}
-use Rattle.search_laws.proofs.TrailLevels.{none_decided, decided_cases, levels_are_total, levels_are_stuck}
+use Rattle.search_laws.proofs.TrailLevels.{none_decided, decided_cases, next_decided, levels_are_total, levels_are_stuck}
 use Rattle.trail_walk.specs.declared.walking.Walked.TheVariants as outcomes
-use Rattle.trail_walk.specs.Ways.{IsEnded, IsOnWay, Spans, WalkEnds}
+use Rattle.trail_walk.specs.Ways.{IsDerived, IsEnded, IsOnWay, Spans, WalkEnds}
 use Rattle.trail_walk.proofs.WaySteps.{false_conflict}
 
 -- with a further closed level
@@ -73,7 +74,9 @@ conflict_at clauses length trail id sound levels opened clash ended (suc m) at d
       decided = decided.5;
     } in
     let conflict : Conflict clauses (decided_lits trail.entries) = false_conflict clauses trail.entries (decided_lits trail.entries) id sound.reasons clash (λ lit i. up_start clauses (decided_lits trail.entries) lit i) in
-    inr (omega (arith, at), (no_lit v ∷ older, levels_are_stuck length clauses trail.entries m v older lower decided.2 decided.3 (subst (λ (es : List Entry). Conflict clauses (decided_lits es)) (sym all) conflict)))
+    let decided_there : (lit : Lit) → In lit (decided_lits trail.entries) → Up clauses (no_lit v ∷ older) lit = λ lit i. next_decided length clauses trail.entries m v older lower decided.3 lit (subst (λ (es : List Entry). In lit (decided_lits es)) (sym all) i) in
+    let derived : IsDerived clauses (no_lit v ∷ older) trail.entries = λ lit h. up_grows clauses clauses (decided_lits trail.entries) (no_lit v ∷ older) (λ c i. i) decided_there lit (decided_up clauses trail.entries sound.reasons lit h) in
+    inr (omega (arith, at), (no_lit v ∷ older, levels_are_stuck length clauses trail.entries m v older lower decided.2 decided.3 (subst (λ (es : List Entry). Conflict clauses (decided_lits es)) (sym all) conflict), derived))
 
 pub conflict_end : (clauses : List Clause) (length : Length) (trail : View) (id : ClauseId) → IsSound clauses trail → AreLevels trail.level trail.entries → AreOpened trail.entries → IsFalseClause clauses trail.entries id → IsOnWay length trail → WalkEnds clauses length trail (outcomes.Conflict id)
 conflict_end clauses length trail id sound levels opened clash way = conflict_at clauses length trail id sound levels opened clash way.ended way.last way.level way.decisions way.decided

@@ -3,8 +3,9 @@ use Rattle.std.specs.Prelude.{◌≡◌, ℕ, suc, ◌+◌, ◌<◌, ◌≤◌, 
 use Rattle.tel_base.specs.declared.literals.Lit.{Lit}
 use Rattle.tel_base.specs.Literals.{lit_of}
 use Rattle.atom_space.specs.Numbers.{Space}
-use Rattle.clause_store.specs.Closure.{Clause, Conflict, IsClosure}
+use Rattle.clause_store.specs.Closure.{Clause, Up, Conflict, IsClosure}
 use Rattle.clause_store.specs.Held as held
+use Rattle.lit_trail.specs.declared.assignment.Entry.{Entry}
 use Rattle.lit_trail.specs.Entries.{View, decision_in, back}
 use Rattle.lit_trail.specs.Levels.{AreWithin}
 use Rattle.lit_trail.specs.Sound.{holds, IsClosedTrail, IsSound}
@@ -54,10 +55,14 @@ abbrev pub Ends : List Clause → Space → ℕ → View → Walked → Type 0
 Ends clauses space n trail (outcomes.Conflict id) = IsFalseClause clauses trail.entries id
 Ends clauses space n trail outcomes.Total = IsClosedTrail clauses trail.entries × (first_open trail.entries space n ≡ None)
 
+-- what holds under the trail follows from the decisions
+abbrev pub IsDerived : List Clause → List Lit → List Entry → Type 0
+IsDerived clauses decisions entries = (lit : Lit) → IsTrue (holds entries lit) → Up clauses decisions lit
+
 -- so the walk of a length is closed or stuck, by the level where the clause is false, or total, and the trail is then its closure
 abbrev pub WalkEnds : List Clause → Length → View → Walked → Type 0
 WalkEnds clauses length trail (outcomes.Conflict id) =
-    ((trail.level ≡ 1) × IsClosedWalk clauses length.ending) ⊎ ((1 < trail.level) × ((decisions : List Lit) × IsStuckWalk clauses length.ending length.visible decisions))
+    ((trail.level ≡ 1) × IsClosedWalk clauses length.ending) ⊎ ((1 < trail.level) × ((decisions : List Lit) × IsStuckWalk clauses length.ending length.visible decisions × IsDerived clauses decisions trail.entries))
 WalkEnds clauses length trail outcomes.Total =
     (decisions : List Lit) × IsTotalWalk clauses length.ending length.visible decisions × IsClosure clauses decisions (holds trail.entries)
 

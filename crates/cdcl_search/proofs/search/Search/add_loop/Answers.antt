@@ -9,7 +9,7 @@ use Rattle.unfounded_sets.specs.LoopClauses.{IsFalseLoop}
 use Rattle.back_jump.proofs.FalseClauses.{loop_false}
 use Rattle.search_laws.specs.Origins.{Kept}
 use Rattle.cdcl_search.specs.Searches.{Begun, View, clauses_of, view_of, IsSearch}
-use Rattle.cdcl_search.specs.Steps.{IsOneMore}
+use Rattle.cdcl_search.specs.Steps.{IsOneMore, IsFalseOne}
 use Rattle.cdcl_search.proofs.KeptLists.{kept_clauses, kept_count}
 use Rattle.cdcl_search.proofs.OneMore.{search_one, kept_more}
 use Rattle.cdcl_search.proofs.Ends.{on_way}
@@ -66,4 +66,5 @@ returns-clause-added g c =
       free = subst (λ (cs : List Clause). Absorbed cs nogood.clause → ⊥) (sym clauses) (subst (λ (ls : List Lit). Absorbed (clauses_in i.store.clauses) ls → ⊥) c.as_slice.ensures (hold.free closed));
       count = ap Some c.counted_one.ensures;
     } in
-    subst (λ (v : View). IsOneMore v new begun c.in_ok-id.id) c.self.view_is more
+    let one_false : IsFalseOne old new begun c.in_ok-id.id = (more, (loop_false i.ground i.trail nogood c.len-count.ensures.ordered is).1) in
+    subst (λ (v : View). IsFalseOne v new begun c.in_ok-id.id) c.self.view_is one_false

@@ -1,11 +1,12 @@
 use Rattle.std.proofs.Common.{ℕ, ◌+◌, ◌<◌, List, [], ◌∷◌, ◌++◌, refl, sym, ap, subst, ◌∙◌, inl, arith}
-use Rattle.std.specs.Prelude.{Option, Some}
+use Rattle.std.specs.Prelude.{Option, Some, IsTrue}
 use Rattle.clause_store.specs.declared.store.ClauseKind.TheVariants as kinds
-use Rattle.clause_store.specs.Closure.{Clause, Absorbed, Conflict, negations}
+use Rattle.clause_store.specs.Closure.{Clause, refutes, Absorbed, Conflict, negations}
+use Rattle.lit_trail.specs.Sound.{holds}
 use Rattle.watch_propagate.specs.Propagation.{IsFalseClause}
 use Rattle.search_laws.specs.Origins.{Kept}
 use Rattle.cdcl_search.specs.Searches.{Begun, View, clauses_of, view_of, IsSearch}
-use Rattle.cdcl_search.specs.Steps.{IsOneMore}
+use Rattle.cdcl_search.specs.Steps.{IsOneMore, IsFalseOne}
 use Rattle.cdcl_search.proofs.KeptLists.{kept_clauses, kept_count}
 use Rattle.cdcl_search.proofs.OneMore.{search_one, kept_more}
 use Rattle.cdcl_search.proofs.Ends.{on_way}
@@ -53,4 +54,6 @@ returns-clause-added g c =
       free = subst (λ (cs : List Clause). Absorbed cs learns.lits → ⊥) (sym clauses) learns.free;
       count = ap Some c.counted_one.ensures;
     } in
-    subst (λ (v : View). IsOneMore v new begun c.in_ok-id.id) c.self.view_is is
+    let refuted : IsTrue (refutes (holds i.trail.entries) learns.lits) = learns.learnt.refuted in
+    let more : IsFalseOne old new begun c.in_ok-id.id = (is, refuted) in
+    subst (λ (v : View). IsFalseOne v new begun c.in_ok-id.id) c.self.view_is more

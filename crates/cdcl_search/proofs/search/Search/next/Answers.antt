@@ -12,8 +12,8 @@ use Rattle.cdcl_search.specs.Searches.{Begun, clauses_of, ending_of, view_of, Is
 use Rattle.cdcl_search.specs.Advancing.{IsStuck, IsTotal}
 use Rattle.cdcl_search.specs.Steps.{Steps, IsAtFound, IsUsedUp, Allows}
 use Rattle.cdcl_search.proofs.KeptLists.{kept_clauses}
-use Rattle.cdcl_search.proofs.Finding.{found_at, needed_at, stuck_needed}
-use Rattle.cdcl_search.proofs.Answered.{alike, holds_same, needed_alike, one_alike, at_begun}
+use Rattle.cdcl_search.proofs.Finding.{found_at, needed_at, cuts_at, stuck_needed, stuck_cuts}
+use Rattle.cdcl_search.proofs.Answered.{alike, holds_same, needed_alike, cuts_alike, added_alike, at_begun}
 use Rattle.cdcl_search.proofs.search.Search.next.Goals as goal
 
 pub returns-then-is_used_up-clause-step : goal.returns-then-is_used_up-clause-step
@@ -97,9 +97,10 @@ returns-in_ok-id-in-Stuck-clause-step g c =
     let before : clauses_of old ≡ clauses_in i.store.clauses = kept_clauses i.store.clauses i.lengths.items in
     let like = alike i.ground i.store adv.new.store i.lengths.items i.trail adv.new.trail i.loops.items i.begun same adv.ensures.vars in
     let stuck = c.in-Stuck.ensures.advances in
-    let needed = stuck_needed old begun adv.new.trail (subst (λ (cs : List Clause). IsStuck cs begun adv.new.trail) (sym before) stuck.1) in
+    let added = c.in_ok-id-in-Stuck.ensures.added in
+    let cuts = stuck_cuts old begun adv.new.trail (subst (λ (cs : List Clause). IsStuck cs begun adv.new.trail) (sym before) stuck.1) added.0.one.lits added.1 in
     let allows = subst (λ (n : ℕ). Allows c.args.budget n) (ap (λ (b : Begun). b.counted) c.begun.view_is) c.if-is_used_up.ensures in
-    at_begun (λ v b. Steps v c.learn.new.self b c.args.budget (steps.Added c.in_ok-id-in-Stuck.id)) old c.args.self.now begun c.self.view_is c.in-Some.is (one_alike old mid c.learn.new.self begun c.in_ok-id-in-Stuck.id like c.in_ok-id-in-Stuck.ensures.added, allows, needed)
+    at_begun (λ v b. Steps v c.learn.new.self b c.args.budget (steps.Added c.in_ok-id-in-Stuck.id)) old c.args.self.now begun c.self.view_is c.in-Some.is (added_alike old mid c.learn.new.self begun c.in_ok-id-in-Stuck.id c.args.budget like added.0 allows cuts)
 
 pub returns-in-None-2-clause-step : goal.returns-in-None-2-clause-step
 returns-in-None-2-clause-step g c =
@@ -134,6 +135,7 @@ returns-in_ok-id-in-Some-2-clause-step g c =
     let length = subst (λ (n : ℕ). IsLength n begun) (sym adv.ensures.vars) search.at.length in
     let total = subst (λ (cs : List Clause). IsTotal cs begun adv.new.trail) (sym now) c.in-Total.ensures.advances in
     let answer = subst (λ (a : Option LoopNogood). Answers i.ground adv.new.trail.entries a) c.in-Some-2.is c.in_ok-find-in-Total.ensures in
-    let needed = needed_alike old mid begun like (λ modules of. needed_at mid begun sound c.len-count.ensures.levels c.len-count.ensures.ordered length total modules of c.in-Some-2.nogood answer) in
+    let added = c.in_ok-id-in-Some-2.ensures.added in
+    let cuts = cuts_alike old mid begun added.0.one.lits like (λ modules of. cuts_at mid begun sound c.len-count.ensures.levels c.len-count.ensures.ordered length total modules of c.in-Some-2.nogood answer added.0.one.lits added.1) in
     let allows = subst (λ (n : ℕ). Allows c.args.budget n) (ap (λ (b : Begun). b.counted) c.begun-in-Some-2.view_is) c.if-is_used_up-2.ensures in
-    at_begun (λ v b. Steps v c.add_loop.new.self b c.args.budget (steps.Added c.in_ok-id-in-Some-2.id)) old c.args.self.now begun c.self.view_is c.in-Some.is (one_alike old mid c.add_loop.new.self begun c.in_ok-id-in-Some-2.id like c.in_ok-id-in-Some-2.ensures.added, allows, needed)
+    at_begun (λ v b. Steps v c.add_loop.new.self b c.args.budget (steps.Added c.in_ok-id-in-Some-2.id)) old c.args.self.now begun c.self.view_is c.in-Some.is (added_alike old mid c.add_loop.new.self begun c.in_ok-id-in-Some-2.id c.args.budget like added.0 allows cuts)
