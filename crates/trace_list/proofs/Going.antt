@@ -1,6 +1,7 @@
 -- What the steps of a listing leave.
-use Rattle.std.proofs.Common.{◌≡◌, ℕ, suc, ◌+◌, ◌-◌, ◌<◌, ◌≤◌, List, [], ◌∷◌, ◌++◌, map, refl, sym, ap, subst, ◌∙◌, ◌⊎◌, ⊎_elim, arith}
+use Rattle.std.proofs.Common.{◌≡◌, ℕ, suc, ◌+◌, ◌-◌, ◌^◌, ◌<◌, ◌≤◌, List, [], ◌∷◌, ◌++◌, map, reverse, refl, sym, ap, subst, ◌∙◌, ◌⊎◌, ⊎_elim, arith}
 use Rattle.std.specs.Prelude.{Option, Some, None}
+use Rattle.std.specs.List.{filter}
 use Rattle.std.proofs.lemmas.List.{map-append, append-nil}
 use Rattle.tel_base.proofs.Members.{In, In-append_left}
 use Rattle.tel_rule.specs.Ground.{Ground, IsGround}
@@ -11,7 +12,9 @@ use Rattle.normal_program.specs.StableSets.{Set}
 use Rattle.clause_store.specs.declared.store.ClauseId.{ClauseId}
 use Rattle.clause_store.specs.declared.store.ClauseKind.{ClauseKind}
 use Rattle.clause_store.specs.declared.store.ClauseKind.TheVariants as kinds
+use Rattle.clause_store.specs.Held.{is_clause}
 use Rattle.clause_store.specs.Closure.{Clause}
+use Rattle.clause_store.proofs.Counting.{at_most_left}
 use Rattle.lit_trail.specs.Unassigned.{visible_below}
 use Rattle.formula_unfold.specs.Nodes.{counts_of}
 use Rattle.step_module.specs.Modules.{module_of}
@@ -37,12 +40,12 @@ use Rattle.trace_list.specs.declared.stages.Next.{Next}
 use Rattle.trace_list.specs.declared.stages.Next.TheVariants as nexts
 use Rattle.trace_list.specs.Reading.{trace_of}
 use Rattle.trace_list.specs.Lengths.{HasModules, HasLength}
-use Rattle.trace_list.specs.Listing.{View, Adds, nothing, counting, blocking, AddsSome, IsWithin, begun_as, OnFound, Fits, Stands, IsListing, OnEnded, IsFront, GoesOn, StaysEnded, stage_of, ListedIsFront}
-use Rattle.trace_list.specs.Seeking.{left, OnSeeking, Keeps, Seeks, come, left_of, Tells}
+use Rattle.trace_list.specs.Listing.{View, Adds, nothing, counting, blocking, AddsSome, IsWithin, left_of, begun_as, OnFound, Fits, Stands, IsListing, OnEnded, IsFront, GoesOn, StaysEnded, stage_of, ListedIsFront, ListedIsSmall}
+use Rattle.trace_list.specs.Seeking.{left, OnSeeking, Keeps, Seeks, come, Tells}
 use Rattle.trace_list.proofs.Models.{same_trace}
 use Rattle.trace_list.proofs.Orders.{run_first, first_more, first_listed, closed_listed}
 use Rattle.trace_list.proofs.Extending.{run_some, modules_stay}
-use Rattle.trace_list.proofs.Falling.{one_fewer}
+use Rattle.trace_list.proofs.Falling.{one_fewer, none_more, same_left, some_left}
 
 -- ---- clauses that come
 
@@ -123,6 +126,39 @@ used_up : (budget : Option ℕ) (count : ℕ) → IsUsedUp budget count → IsWi
 used_up None count used within = absurd used
 used_up (Some budget) count used within = let same : budget ≡ count = omega (arith, used, within) in ap Some same
 
+-- ---- how many clauses there are
+
+few_at_first : (search : searches.View) → 0 + left_of search ≤ 3 ^ search.vars
+few_at_first search =
+    let most : left_of search ≤ 3 ^ search.vars = at_most_left search.vars (filter (is_clause search.vars) (reverse (clauses_of search))) in
+    omega (arith, most)
+
+few_blocked : (old new : searches.View) (one : Kept) (count : ℕ) → new.vars ≡ old.vars → new.kept ≡ old.kept ++ one ∷ [] → count + left_of old ≤ 3 ^ old.vars → count + left_of new ≤ 3 ^ new.vars
+few_blocked old new one count vars kept few =
+    let less = none_more old new one vars kept in
+    let most : 3 ^ new.vars ≡ 3 ^ old.vars = ap (λ (v : ℕ). 3 ^ v) vars in
+    omega (arith, few, less, most)
+
+few_more : (old new : searches.View) (begun : Begun) (id : ClauseId) (count : ℕ) → new.vars ≡ old.vars → IsOneMore old new begun id → count + left_of old ≤ 3 ^ old.vars → count + 1 + left_of new ≤ 3 ^ new.vars
+few_more old new begun id count vars is few =
+    let less = one_fewer old new begun id vars is in
+    let most : 3 ^ new.vars ≡ 3 ^ old.vars = ap (λ (v : ℕ). 3 ^ v) vars in
+    omega (arith, few, less, most)
+
+few_same : (old new : searches.View) (count : ℕ) → new.vars ≡ old.vars → new.kept ≡ old.kept → count + left_of old ≤ 3 ^ old.vars → count + left_of new ≤ 3 ^ new.vars
+few_same old new count vars kept few =
+    let same = same_left old new vars kept in
+    let most : 3 ^ new.vars ≡ 3 ^ old.vars = ap (λ (v : ℕ). 3 ^ v) vars in
+    omega (arith, few, same, most)
+
+few_counted : (search : searches.View) (count : ℕ) → count + left_of search ≤ 3 ^ search.vars → count < 3 ^ search.vars
+few_counted search count few =
+    let some = some_left search in
+    omega (arith, few, some)
+
+pub listed_is_small : ListedIsSmall
+listed_is_small program n start listing search traces is = few_counted search is.fits.counted is.few
+
 -- ---- where a listing stands
 
 stands_at : (program : Ground) (n : ℕ) (start : List Kept) (listing : View) (stage : Stage) (search : searches.View) (count : ℕ) (sets : List Set) (traces : List (List (List ℕ))) → listing.stage ≡ stage → Stands program n start listing listing.stage search count sets traces → Stands program n start listing stage search count sets traces
@@ -195,6 +231,7 @@ blocked_at program start old before after id traces stage same vars begun at gro
       };
       added = blocking after.kept before.kept b.one is.fits.counted b.kept is.added b.kind;
       budget = is.budget;
+      few = few_blocked before after b.one is.fits.counted vars b.kept is.few;
       stands = with_found program n before old.space is.sets traces ground some is.counts stands.1;
     }
 
@@ -275,6 +312,7 @@ listing_step program start old before after step traces stage same vars at groun
         length = length_one program n ground before after begun id is.sets refl same vars d.0 is.length;
         added = counting after.kept before.kept d.0.one (c + 1) c d.0.kept (omega arith) is.added (not_block before after d.0.one d.0.came) d.0.free;
         budget = within_more old.conflicts c d.1;
+        few = few_more before after begun id c vars d.0 is.few;
         stands = stands;
       }
       | steps.Found ↦ λ d. record {
@@ -285,6 +323,7 @@ listing_step program start old before after step traces stage same vars at groun
         length = length_same program n ground before after is.sets same vars d.0.kept is.length;
         added = subst (λ (held : List Kept). Adds start held c) (sym d.0.kept) is.added;
         budget = is.budget;
+        few = few_same before after c vars d.0.kept is.few;
         stands = (d.2, ap (λ (ts : List (List (List ℕ))). ts ++ trace_of after.trail.entries old.space.counts n ∷ []) stands);
       }
       | steps.Closed ↦ λ d.
@@ -297,10 +336,12 @@ listing_step program start old before after step traces stage same vars at groun
             length = length_same program n ground before after is.sets same vars d.0.kept is.length;
             added = subst (λ (held : List Kept). Adds start held c) (sym d.0.kept) is.added;
             budget = is.budget;
+            few = few_same before after c vars d.0.kept is.few;
             stands = (stands, closed_listed program n ground some before.kept is.sets is.length.run clash ∙ stands);
           }
       | steps.Spent ↦ λ d.
           let more = subst (λ (held : List Kept). Adds start held c) (sym d.0.kept) is.added in
+          let few = few_same before after c vars d.0.kept is.few in
           record {
             fits = record { within = is.fits.within; counted = c; begun = d.0.begun ∙ is.fits.begun; level = tt };
             number = refl;
@@ -309,7 +350,8 @@ listing_step program start old before after step traces stage same vars at groun
             length = length_same program n ground before after is.sets same vars d.0.kept is.length;
             added = more;
             budget = is.budget;
-            stands = (stands, record { counted = c; budget = used_up old.conflicts c d.1 is.budget; added = more; needed = subst (λ (held : List Kept). Needed (lengths n) (lits_of held)) (sym d.0.kept) (d.2 (module_of program) of) });
+            few = few;
+            stands = (stands, record { counted = c; budget = used_up old.conflicts c d.1 is.budget; added = more; needed = subst (λ (held : List Kept). Needed (lengths n) (lits_of held)) (sym d.0.kept) (d.2 (module_of program) of); few = few_counted after c few });
           }
     ]) (at_begun old before is.fits (λ (one : Begun). Steps before after one old.conflicts step) at)
 
@@ -413,5 +455,6 @@ begins_listing old new space n conflicts within same vars kept begun program cou
   };
   added = nothing new.kept 0 kept refl;
   budget = (elim conflicts as (λ (o : Option ℕ). IsWithin o 0) [ None ↦ tt | Some budget ↦ omega arith ]);
+  few = few_at_first new;
   stands = refl;
 }

@@ -1,11 +1,14 @@
 -- The listing of the traces of a length.
-use Rattle.std.specs.Prelude.{◌≡◌, ℕ, suc, ◌<◌, ◌≤◌, List, [], ◌∷◌, ◌++◌, map, Option, Some, None}
+use Rattle.std.specs.Prelude.{◌≡◌, ℕ, suc, ◌+◌, ◌^◌, ◌<◌, ◌≤◌, List, [], ◌∷◌, ◌++◌, map, reverse, Option, Some, None}
+use Rattle.std.specs.List.{filter}
 use Rattle.tel_rule.specs.Ground.{Ground, IsGround}
 use Rattle.tel_semantics.specs.Equilibrium.{list_of}
 use Rattle.atom_space.specs.Numbers.{Space}
 use Rattle.normal_program.specs.StableSets.{Set}
 use Rattle.clause_store.specs.declared.store.ClauseKind.TheVariants as kinds
+use Rattle.clause_store.specs.Held.{is_clause}
 use Rattle.clause_store.specs.Closure.{Absorbed}
+use Rattle.clause_store.specs.Counts.{left_over}
 use Rattle.formula_unfold.specs.Nodes.{counts_of}
 use Rattle.step_module.specs.Modules.{module_of}
 use Rattle.stable_models.specs.Values.{read_trace}
@@ -46,6 +49,10 @@ abbrev pub IsWithin : Option ℕ → ℕ → Type 0
 IsWithin None counted = Unit {0}
 IsWithin (Some budget) counted = counted ≤ budget
 
+-- how many clauses can still come, of different variables of the search, that those before them don't absorb
+abbrev pub left_of : searches.View → ℕ
+left_of search = left_over search.vars (filter (is_clause search.vars) (reverse (clauses_of search)))
+
 -- ---- where a listing stands
 
 -- a length that the search is at, with so many clauses counted
@@ -73,12 +80,13 @@ pub record Fits (listing : View) (search : searches.View) : Type 0 where
   pub begun : search.begun ≡ Some (begun_as listing.space listing.n counted)
   pub level : OnFound listing.stage (0 < search.trail.level)
 
--- the budget is used up since the clauses `start`, and a further clause is needed
+-- the budget is used up since the clauses `start`, and a further clause is needed; there are more over the variables of the search than the budget
 pub record IsSpent (program : Ground) (n : ℕ) (start : List Kept) (conflicts : Option ℕ) (search : searches.View) : Type 0 where
   pub counted : ℕ
   pub budget : conflicts ≡ Some counted
   pub added : Adds start search.kept counted
   pub needed : Needed (length_of (module_of program) n) (clauses_of search)
+  pub few : counted < 3 ^ search.vars
 
 -- these are the traces of the sets that were found and blocked, and behind them that of the trail where it was found and isn't blocked yet; where the
 -- walk was closed, they are all
@@ -98,6 +106,7 @@ pub record IsListing (program : Ground) (n : ℕ) (start : List Kept) (listing :
   pub length : HasLength program n search sets
   pub added : Adds start search.kept fits.counted
   pub budget : IsWithin listing.conflicts fits.counted
+  pub few : fits.counted + left_of search ≤ 3 ^ search.vars
   pub stands : Stands program n start listing listing.stage search fits.counted sets traces
 
 -- ---- the answers
@@ -131,3 +140,8 @@ GoesOn old before new after next =
 abbrev pub ListedIsFront : Type 0
 ListedIsFront =
     (program : Ground) (n : ℕ) (start : List Kept) (listing : View) (search : searches.View) (traces : List (List (List ℕ))) → IsGround program → IsListing program n start listing search traces → IsFront traces (list_of program n)
+
+-- the clauses that were counted are fewer than there are over the variables of the search
+abbrev pub ListedIsSmall : Type 0
+ListedIsSmall =
+    (program : Ground) (n : ℕ) (start : List Kept) (listing : View) (search : searches.View) (traces : List (List (List ℕ))) (is : IsListing program n start listing search traces) → is.fits.counted < 3 ^ search.vars

@@ -1,12 +1,8 @@
 -- The steps of a listing to its next answer.
-use Rattle.std.specs.Prelude.{◌≡◌, ℕ, List, [], ◌∷◌, ◌++◌, reverse}
-use Rattle.std.specs.List.{filter}
+use Rattle.std.specs.Prelude.{◌≡◌, ℕ, List, [], ◌∷◌, ◌++◌}
 use Rattle.tel_rule.specs.Ground.{Ground, IsGround}
-use Rattle.clause_store.specs.Held.{is_clause}
-use Rattle.clause_store.specs.Counts.{left_over}
 use Rattle.search_laws.specs.Origins.{Kept}
 use Rattle.cdcl_search.specs.Searches as searches
-use Rattle.cdcl_search.specs.Searches.{clauses_of}
 use Rattle.trace_list.specs.declared.stages.Stage.{Stage}
 use Rattle.trace_list.specs.declared.stages.Stage.TheVariants as stages
 use Rattle.trace_list.specs.declared.stages.Next.{Next}
@@ -51,10 +47,6 @@ pub record IsSame (old new : View) : Type 0 where
   pub space : new.space ≡ old.space
   pub n : new.n ≡ old.n
   pub conflicts : new.conflicts ≡ old.conflicts
-
--- how many clauses can still come, of different variables of the search, that those before them don't absorb
-abbrev pub left_of : searches.View → ℕ
-left_of search = left_over search.vars (filter (is_clause search.vars) (reverse (clauses_of search)))
 
 -- what is answered where the listing stands
 abbrev pub Tells : View → searches.View → Next → Type 0

@@ -2,7 +2,7 @@
 
 ghost use Rattle.trace_list.specs.Reading.{FoundAreModels};
 ghost use Rattle.trace_list.specs.Lengths.{NewHasLeft, ExtendedHasLength, LengthHasLeft, LeftStays, LengthHasVars};
-ghost use Rattle.trace_list.specs.Listing.{ListedIsFront};
+ghost use Rattle.trace_list.specs.Listing.{ListedIsFront, ListedIsSmall};
 
 /// The trace of a walk that is found is a temporal equilibrium model of its length.
 pub fn found_models()
@@ -18,7 +18,9 @@ pub fn program_lengths()
     ensures vars { LengthHasVars }
 {}
 
-/// What a listing has come to is a front of the temporal equilibrium models of its length, in the order of traces.
+/// What a listing has come to is a front of the temporal equilibrium models of its length, in the order of traces, and the clauses
+/// that were counted for it are fewer than there are over the variables of its search.
 pub fn listed_traces()
-    ensures { ListedIsFront }
+    ensures front { ListedIsFront }
+    ensures small { ListedIsSmall }
 {}

@@ -8,8 +8,8 @@ ghost use Rattle.lit_trail.specs.Unassigned.{visible_below};
 ghost use Rattle.formula_unfold.specs.Nodes.{counts_of};
 ghost use Rattle.trace_list.specs.declared.stages.Stage.TheVariants as stages;
 ghost use Rattle.trace_list.specs.Lengths.{HasLength};
-ghost use Rattle.trace_list.specs.Listing.{AddsSome, Fits, IsListing, GoesOn, StaysEnded, stage_of};
-ghost use Rattle.trace_list.specs.Seeking.{left, OnSeeking, Keeps, Seeks, IsSame, left_of, Tells};
+ghost use Rattle.trace_list.specs.Listing.{AddsSome, left_of, Fits, IsListing, GoesOn, StaysEnded, stage_of};
+ghost use Rattle.trace_list.specs.Seeking.{left, OnSeeking, Keeps, Seeks, IsSame, Tells};
 
 use crate::reading::read_trace;
 use crate::stages::{Next, Stage};

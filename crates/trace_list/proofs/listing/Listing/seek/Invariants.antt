@@ -1,6 +1,6 @@
 use Rattle.std.proofs.Common.{◌≡◌}
-use Rattle.trace_list.specs.Listing.{AddsSome, Fits, StaysEnded}
-use Rattle.trace_list.specs.Seeking.{Seeks, IsSame, left_of}
+use Rattle.trace_list.specs.Listing.{AddsSome, left_of, Fits, StaysEnded}
+use Rattle.trace_list.specs.Seeking.{Seeks, IsSame}
 use Rattle.trace_list.proofs.Going.{weight}
 use Rattle.trace_list.proofs.listing.Listing.seek.Given as goal
 
