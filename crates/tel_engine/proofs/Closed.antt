@@ -3,8 +3,9 @@ use Rattle.std.proofs.Common.{◌≡◌, ℕ, min, List, ◌++◌, length, Optio
 use Rattle.std.specs.Prelude.{codes, decimal}
 use Rattle.tel_base.specs.Bytes.{Appends, AppendsFront}
 use Rattle.tel_base.specs.Counts.{Rose}
-use Rattle.tel_base.proofs.Told.{appends-then, front-then, front-in-first}
+use Rattle.tel_base.proofs.Told.{appends-then, front-then, front-in-first, front-of-nothing}
 use Rattle.tel_rule.specs.Ground.{Ground}
+use Rattle.tel_semantics.specs.Equilibrium.{list_of}
 use Rattle.tel_semantics.specs.Print.{header_line, how_text, closing_line, greatest_count}
 use Rattle.tel_engine.specs.declared.ends.LengthEnd.{LengthEnd}
 use Rattle.tel_engine.specs.declared.ends.EngineFault.{EngineFault}
@@ -34,7 +35,7 @@ module _ (program : Ground) (n models : ℕ) (conflicts : Option ℕ) where
   -- the header is cut short
   pub closed_header : (old new : Option (List ℕ)) (before now : ℕ) → AppendsFront old new header → Rose before now → Prints (text_of program n) program n models conflicts (Err Write) old new before now
   closed_header old new before now short rose =
-      let end = whole_end program n models in (
+      let end = whole_end (list_of program n) models in (
         record {
           end = end;
           is_end = inl refl;
@@ -78,4 +79,12 @@ module _ (program : Ground) (n models : ℕ) (conflicts : Option ℕ) where
           printed = appends-then old late new (header ++ lines_of program end) (closing end) (appends-then old mid late header (lines_of program end) first whole.0.printed) (subst (Appends late new) (closing_told end answer whole.0.tells) last);
         },
         same ∙ (whole.1 ∙ stands),
+      )
+
+  -- nothing is printed, where there was no memory before
+  pub closed_none : (old : Option (List ℕ)) (before : ℕ) → Prints (text_of program n) program n models conflicts (Err Memory) old old before before
+  closed_none old before =
+      let end = whole_end (list_of program n) models in (
+        record { end = end; is_end = inl refl; printed = front-of-nothing old old (text_of program n end) refl },
+        refl,
       )

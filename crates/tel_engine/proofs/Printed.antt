@@ -1,7 +1,8 @@
 -- A length, printed trace by trace.
-use Rattle.std.proofs.Common.{◌≡◌, ℕ, ◌+◌, ◌-◌, ◌<◌, ◌≤◌, min, Bool, true, false, ◌&&◌, List, [], ◌∷◌, ◌++◌, length, take, append-nil, length-append, Option, Ok, Err, refl, sym, ap, subst, ◌∙◌, ◌⊎◌, inl, inr, ⊎_elim, arith}
+use Rattle.std.proofs.Common.{◌≡◌, ℕ, ◌+◌, ◌-◌, ◌*◌, ◌^◌, ◌<◌, ◌≤◌, min, Bool, true, false, ◌&&◌, List, [], ◌∷◌, ◌++◌, length, take, append-nil, length-append, Option, Ok, Err, refl, sym, ap, subst, ◌∙◌, ◌⊎◌, inl, inr, ⊎_elim, arith}
 use Rattle.std.specs.Prelude.{Some, nat_lt, nat_le}
 use Rattle.std.specs.List.{flat_map}
+use Rattle.std.proofs.Math.Nat.{pow-le-pow_right}
 use Rattle.std.proofs.Math.Seq.{take-append-add, take-append_seam}
 use Rattle.std.proofs.lemmas.Bool.{lt-ltb, le-leb, lt-leb, and_from, and_parts, ltb-true, cond-true, cond-false, cases_Bool, cases_lt}
 use Rattle.std.proofs.lemmas.Grind.{flat_map-append}
@@ -12,6 +13,8 @@ use Rattle.tel_rule.specs.Ground.{Ground, IsGround}
 use Rattle.tel_semantics.specs.declared.ends.How.TheVariants.{Complete, Limit, Budget}
 use Rattle.tel_semantics.specs.Equilibrium.{list_of}
 use Rattle.tel_semantics.specs.Print.{trace_lines, greatest_count}
+use Rattle.atom_space.specs.Numbers.{width}
+use Rattle.formula_unfold.specs.Nodes.{counts_of}
 use Rattle.search_laws.specs.Origins.{Kept}
 use Rattle.cdcl_search.specs.Searches as searches
 use Rattle.trace_list.specs.Lengths.{HasLeft}
@@ -19,7 +22,7 @@ use Rattle.trace_list.specs.Listing.{IsWithin, IsSpent, IsListing, IsFront}
 use Rattle.trace_list.specs.Listing as listings
 use Rattle.trace_list.proofs.Extending.{length_has_left}
 use Rattle.tel_engine.specs.declared.ends.EngineFault.TheVariants.{Write, Memory}
-use Rattle.tel_engine.specs.Ends.{End, is_reached, whole_end, IsFewer}
+use Rattle.tel_engine.specs.Ends.{End, is_reached, whole_end, most_counted, IsFewer}
 use Rattle.tel_engine.specs.Lists.{PrintsFront, Prints, lines_of, AddsFew, AddsAll}
 
 -- the traces that a listing has come to are printed, and further ones are asked for
@@ -54,11 +57,11 @@ limited all models = record { traces = take models all; how = Limit }
 abbrev completed : Traces → End
 completed all = record { traces = all; how = Complete }
 
-whole_limited : (program : Ground) (n models : ℕ) → is_reached models (length (list_of program n)) ≡ true → whole_end program n models ≡ limited (list_of program n) models
-whole_limited program n models h = cond-true (is_reached models (length (list_of program n))) (limited (list_of program n) models) (completed (list_of program n)) h
+whole_limited : (all : Traces) (models : ℕ) → is_reached models (length all) ≡ true → whole_end all models ≡ limited all models
+whole_limited all models h = cond-true (is_reached models (length all)) (limited all models) (completed all) h
 
-whole_completed : (program : Ground) (n models : ℕ) → is_reached models (length (list_of program n)) ≡ false → whole_end program n models ≡ completed (list_of program n)
-whole_completed program n models h = cond-false (is_reached models (length (list_of program n))) (limited (list_of program n) models) (completed (list_of program n)) h
+whole_completed : (all : Traces) (models : ℕ) → is_reached models (length all) ≡ false → whole_end all models ≡ completed all
+whole_completed all models h = cond-false (is_reached models (length all)) (limited all models) (completed all) h
 
 front_of_taken : (models : ℕ) (all traces : Traces) → IsFront traces all → (models ≡ 0) ⊎ (length traces ≤ models) → is_reached models (length all) ≡ true → IsFront traces (take models all)
 front_of_taken models all traces front (inl none) h =
@@ -69,12 +72,12 @@ front_of_taken models all traces front (inr enough) h =
     (take (models - length traces) front.0, ap (take models) front.1 ∙ (ap (λ (k : ℕ). take k (traces ++ front.0)) (sym rest) ∙ take-append-add traces front.0 (models - length traces)))
 
 -- a front of the list, not longer than what is asked for, is a front of what is printed where no budget cuts it
-pub front_of_whole : (program : Ground) (n models : ℕ) (traces : Traces) → IsFront traces (list_of program n) → (models ≡ 0) ⊎ (length traces ≤ models) → IsFront traces (whole_end program n models).traces
-front_of_whole program n models traces front upto =
+pub front_of_whole : (all : Traces) (models : ℕ) (traces : Traces) → IsFront traces all → (models ≡ 0) ⊎ (length traces ≤ models) → IsFront traces (whole_end all models).traces
+front_of_whole all models traces front upto =
     ⊎_elim
-    (λ h. subst (λ (end : End). IsFront traces end.traces) (sym (whole_limited program n models h)) (front_of_taken models (list_of program n) traces front upto h))
-    (λ h. subst (λ (end : End). IsFront traces end.traces) (sym (whole_completed program n models h)) front)
-    (cases_Bool (is_reached models (length (list_of program n))))
+    (λ h. subst (λ (end : End). IsFront traces end.traces) (sym (whole_limited all models h)) (front_of_taken models all traces front upto h))
+    (λ h. subst (λ (end : End). IsFront traces end.traces) (sym (whole_completed all models h)) front)
+    (cases_Bool (is_reached models (length all)))
 
 fewer_is_upto : (models count : ℕ) → IsFewer models count → (models ≡ 0) ⊎ (count ≤ models)
 fewer_is_upto models count (inl none) = inl none
@@ -84,18 +87,17 @@ fewer_is_upto_next : (models count : ℕ) → IsFewer models count → (models �
 fewer_is_upto_next models count (inl none) = inl none
 fewer_is_upto_next models count (inr less) = inr (omega (arith, less))
 
-limit_end : (program : Ground) (n models : ℕ) (traces : Traces) → IsFront traces (list_of program n) → 0 < models → length traces ≡ models → record { traces = traces; how = Limit } ≡ whole_end program n models
-limit_end program n models traces front some same =
-    let all = list_of program n in
+limit_end : (all : Traces) (models : ℕ) (traces : Traces) → IsFront traces all → 0 < models → length traces ≡ models → record { traces = traces; how = Limit } ≡ whole_end all models
+limit_end all models traces front some same =
     let size = ap length front.1 ∙ length-append traces front.0 in
     let enough : models ≤ length all = omega (arith, size, same) in
     let taken : take models all ≡ traces = ap (take models) front.1 ∙ (ap (λ (k : ℕ). take k (traces ++ front.0)) (sym same) ∙ take-append_seam traces front.0) in
-    sym (whole_limited program n models (reached models (length all) some enough) ∙ ap (λ (ts : Traces). record { traces = ts; how = Limit }) taken)
+    sym (whole_limited all models (reached models (length all) some enough) ∙ ap (λ (ts : Traces). record { traces = ts; how = Limit }) taken)
 
-complete_end : (program : Ground) (n models : ℕ) (traces : Traces) → list_of program n ≡ traces → IsFewer models (length traces) → record { traces = traces; how = Complete } ≡ whole_end program n models
-complete_end program n models traces all fewer =
-    let none = subst (λ (k : ℕ). is_reached models k ≡ false) (sym (ap length all)) (unreached models (length traces) fewer) in
-    sym (whole_completed program n models none ∙ ap completed all)
+complete_end : (all : Traces) (models : ℕ) (traces : Traces) → all ≡ traces → IsFewer models (length traces) → record { traces = traces; how = Complete } ≡ whole_end all models
+complete_end all models traces are fewer =
+    let none = subst (λ (k : ℕ). is_reached models k ≡ false) (sym (ap length are)) (unreached models (length traces) fewer) in
+    sym (whole_completed all models none ∙ ap completed are)
 
 -- ---- counts
 
@@ -142,9 +144,9 @@ module _ (program : Ground) (n : ℕ) (start : List Kept) (models : ℕ) where
     -- a front of an end is printed
     front_printed : (conflicts : Option ℕ) (new : Option (List ℕ)) (traces : Traces) → IsFront traces (list_of program n) → (models ≡ 0) ⊎ (length traces ≤ models) → AppendsFront old new (lines traces) → PrintsFront (lines_of program) program n models conflicts old new
     front_printed conflicts new traces front upto printed = record {
-      end = whole_end program n models;
+      end = whole_end (list_of program n) models;
       is_end = inl refl;
-      printed = front_lines traces (whole_end program n models).traces old new (front_of_whole program n models traces front upto) printed;
+      printed = front_lines traces (whole_end (list_of program n) models).traces old new (front_of_whole (list_of program n) models traces front upto) printed;
     }
 
     -- where there is no memory for the next trace
@@ -191,7 +193,7 @@ module _ (program : Ground) (n : ℕ) (start : List Kept) (models : ℕ) where
         let at = at_limit greatest_count models (length state.traces) more (omega arith) state.fewer (next_count trace more is) enough in (
           record {
             end = record { traces = state.traces ++ trace ∷ []; how = Limit };
-            is_end = inl (limit_end program n models (state.traces ++ trace ∷ []) front at.0 (length-append state.traces (trace ∷ []) ∙ at.1));
+            is_end = inl (limit_end (list_of program n) models (state.traces ++ trace ∷ []) front at.0 (length-append state.traces (trace ∷ []) ∙ at.1));
             tells = record { how = refl; traces = count_more trace more is };
             printed = both_printed trace new whole;
           },
@@ -203,7 +205,7 @@ module _ (program : Ground) (n : ℕ) (start : List Kept) (models : ℕ) where
     printed_complete conflicts all = (
       record {
         end = record { traces = state.traces; how = Complete };
-        is_end = inl (complete_end program n models state.traces all state.fewer);
+        is_end = inl (complete_end (list_of program n) models state.traces all state.fewer);
         tells = record { how = refl; traces = state.counted };
         printed = state.printed;
       },
@@ -211,17 +213,28 @@ module _ (program : Ground) (n : ℕ) (start : List Kept) (models : ℕ) where
     )
 
     -- where the budget is used up
-    pub printed_spent : (conflicts : Option ℕ) (budget : ℕ) → conflicts ≡ Some budget → Prints (lines_of program) program n models conflicts (Ok (record { how = Budget; traces = count })) old mid before between
-    printed_spent conflicts budget given =
-        let front = front_of_whole program n models state.traces state.front (fewer_is_upto models (length state.traces) state.fewer) in (
+    pub printed_spent : (conflicts : Option ℕ) (budget : ℕ) → conflicts ≡ Some budget → budget < most_counted program n → Prints (lines_of program) program n models conflicts (Ok (record { how = Budget; traces = count })) old mid before between
+    printed_spent conflicts budget given small =
+        let front = front_of_whole (list_of program n) models state.traces state.front (fewer_is_upto models (length state.traces) state.fewer) in (
           record {
             end = record { traces = state.traces; how = Budget };
-            is_end = inr (record { budget = budget; given = given; how = refl; rest = front.0; front = front.1; fewer = state.fewer });
+            is_end = inr (record { budget = budget; given = given; small = small; how = refl; rest = front.0; front = front.1; fewer = state.fewer });
             tells = record { how = refl; traces = state.counted };
             printed = state.printed;
           },
           state.stands,
         )
+
+-- ---- how many clauses a budget counts
+
+-- one that is used up is below the number of clauses over the variables of n + 1 states
+pub spent_small : (program : Ground) (n : ℕ) (start : List Kept) (conflicts : Option ℕ) (search : searches.View) (vars : ℕ) (is : IsSpent program n start conflicts search) → search.vars ≡ vars → vars ≤ (n + 1) * width (counts_of program) → is.counted < most_counted program n
+unfolding most_counted
+spent_small program n start conflicts search vars is same few =
+    let small = is.few in
+    let wider : search.vars ≤ (n + 1) * width (counts_of program) = omega (arith, same, few) in
+    let most : 3 ^ search.vars ≤ 3 ^ ((n + 1) * width (counts_of program)) = pow-le-pow_right (omega arith) wider in
+    omega (arith, small, most)
 
 -- ---- what a listing leaves
 

@@ -1,5 +1,5 @@
 -- What an engine has between its calls.
-use Rattle.std.proofs.Common.{◌≡◌, ℕ, ◌+◌, ◌-◌, ◌*◌, ◌^◌, ◌<◌, ◌≤◌, true, List, [], length, refl, sym, subst, arith}
+use Rattle.std.proofs.Common.{◌≡◌, ℕ, ◌+◌, ◌-◌, ◌*◌, ◌^◌, ◌<◌, ◌≤◌, max, Bool, true, false, List, [], length, refl, sym, ap, subst, arith}
 use Rattle.std.specs.List.{list_all}
 use Rattle.std.proofs.lemmas.Nat.{mul-le}
 use Rattle.tel_base.proofs.Members.{In}
@@ -23,7 +23,7 @@ use Rattle.trace_list.specs.Lengths.{HasLength, HasLeft, IsExtended}
 use Rattle.trace_list.proofs.Extending.{new_has_left, modules_stay, extended_has_length, length_has_left, left_stays, length_has_vars}
 use Rattle.tel_engine.specs.declared.stages.Stage.{Stage}
 use Rattle.tel_engine.specs.declared.stages.Stage.TheVariants as stages
-use Rattle.tel_engine.proofs.Fits.{module_vars_fit}
+use Rattle.tel_engine.proofs.Fits.{module_vars_few, module_vars_fit}
 use Rattle.tel_engine.specs.Engines.{IsSmall, IsAt, IsEngine}
 
 -- ---- its variables
@@ -69,6 +69,17 @@ module _ (program : Ground) (n : ℕ) (step : StepModule) (clauses : List Clause
   pub step_clauses : list_all (is_clause (vars_for step clauses)) clauses ≡ true
   step_clauses = subst (λ (cs : List Clause). list_all (is_clause (vars_for step cs)) cs ≡ true) (sym of_step) (module_fits step)
 
+  -- with it the search has the variables of one state more
+  pub next_vars : (old new : View) → IsGround program → old.vars ≤ (n + 1) * width (counts_of program) → new.vars ≡ max old.vars (vars_for step clauses) → new.vars ≤ (n + 1 + 1) * width (counts_of program)
+  next_vars old new ground few is =
+      let w = width (counts_of program) in
+      let more : vars_for step clauses ≤ (n + 2) * w =
+      subst (λ (cs : List Clause). vars_for step cs ≤ (n + 2) * w) (sym of_step) (subst (λ (s : StepModule). vars_for s (clauses_of s) ≤ (n + 2) * w) (sym made) (module_vars_few program n ground)) in
+      let rows : (n + 1) * w ≤ (n + 2) * w = mul-le (n + 1) w (n + 2) w (omega arith) (omega arith) in
+      let two : n + 1 + 1 ≡ n + 2 = omega arith in
+      let same : (n + 1 + 1) * w ≡ (n + 2) * w = ap (λ (k : ℕ). k * w) two in
+      omega (arith, few, is, more, rows, same)
+
   -- with it the search has the next length
   pub at_next : (old new : View) → HasLeft program n old → IsExtended old new step clauses → HasLength program (n + 1) new []
   at_next old new left is =
@@ -77,7 +88,7 @@ module _ (program : Ground) (n : ℕ) (step : StepModule) (clauses : List Clause
 
 -- ---- at a length that is to be listed
 
-module _ (template : Ground) (space : Space) (search : View) (n : ℕ) (stage : Stage) (engine : IsEngine template space search n stage) (extended : stage ≡ stages.Extended) where
+module _ (template : Ground) (space : Space) (search : View) (n : ℕ) (stage : Stage) (wide : Bool) (engine : IsEngine template space search n stage wide) (extended : stage ≡ stages.Extended) where
   pub extended_length : HasLength template n search []
   extended_length = subst (IsAt template n search) extended engine.at
 
@@ -92,8 +103,8 @@ module _ (template : Ground) (space : Space) (search : View) (n : ℕ) (stage : 
 
 -- ---- a new one
 
-pub new_engine : (template : Ground) (atoms nodes bodies greatest : ℕ) (search : View) → IsGround template → IsSmall template greatest → atoms ≡ length template.atoms → nodes ≡ length template.nodes → bodies ≡ length template.instances → search.ground ≡ layers_of [] [] → search.kept ≡ [] → IsEngine template (space_of atoms nodes bodies greatest) search 0 stages.Listed
-new_engine template atoms nodes bodies greatest search ground small a n b none empty =
+pub new_engine : (template : Ground) (atoms nodes bodies greatest : ℕ) (search : View) → IsGround template → IsSmall template greatest → atoms ≡ length template.atoms → nodes ≡ length template.nodes → bodies ≡ length template.instances → search.ground ≡ layers_of [] [] → search.kept ≡ [] → search.vars ≡ 0 → IsEngine template (space_of atoms nodes bodies greatest) search 0 stages.Listed false
+new_engine template atoms nodes bodies greatest search ground small a n b none empty vars =
     let counts : (space_of atoms nodes bodies greatest).counts ≡ counts_of template = λ i. record { atoms = a i; nodes = n i; bodies = b i } in
     record {
       ground = ground;
@@ -101,4 +112,5 @@ new_engine template atoms nodes bodies greatest search ground small a n b none e
       small = record { small = subst (λ (of : Counts). (greatest + 1) * width of < 2 ^ 31) (sym counts) (small_space template greatest small) };
       within = omega arith;
       at = new_has_left template search none empty;
+      few = λ narrow. omega (arith, vars);
     }

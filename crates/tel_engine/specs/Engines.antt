@@ -1,5 +1,5 @@
 -- What contracts see of an engine, and what each engine keeps.
-use Rattle.std.specs.Prelude.{◌≡◌, ℕ, ◌*◌, ◌≤◌, List, []}
+use Rattle.std.specs.Prelude.{◌≡◌, ℕ, ◌+◌, ◌*◌, ◌≤◌, Bool, false, List, []}
 use Rattle.tel_rule.specs.Ground.{Ground, IsGround}
 use Rattle.atom_space.specs.Numbers.{Space, IsSpace, width}
 use Rattle.formula_unfold.specs.Nodes.{counts_of}
@@ -42,10 +42,12 @@ IsAt program n search stages.Extended = HasLength program n search []
 IsAt program n search stages.Listed = HasLeft program n search
 IsAt program n search stages.Lost = Unit {0}
 
--- one search over the variables of the program serves all its lengths
-pub record IsEngine (template : Ground) (space : Space) (search : searches.View) (length : ℕ) (stage : Stage) : Type 0 where
+-- one search over the variables of the program serves all its lengths; it has those of one state more than its length, where want of memory has not
+-- left it wide
+pub record IsEngine (template : Ground) (space : Space) (search : searches.View) (length : ℕ) (stage : Stage) (wide : Bool) : Type 0 where
   pub ground : IsGround template
   pub counts : space.counts ≡ counts_of template
   pub small : IsSpace space
   pub within : length ≤ space.greatest
   pub at : IsAt template length search stage
+  pub few : wide ≡ false → search.vars ≤ (length + 1) * width (counts_of template)

@@ -6,6 +6,7 @@ use Rattle.tel_base.specs.Counts.{Rose}
 use Rattle.tel_rule.specs.Ground.{Ground}
 use Rattle.tel_semantics.specs.declared.ends.How.{How}
 use Rattle.tel_semantics.specs.declared.ends.How.TheVariants as hows
+use Rattle.tel_semantics.specs.Equilibrium.{list_of}
 use Rattle.tel_semantics.specs.Print.{trace_lines, print}
 use Rattle.step_module.specs.Modules.{module_of}
 use Rattle.search_laws.specs.Lengths.{length_of}
@@ -15,21 +16,21 @@ use Rattle.trace_list.specs.Listing.{Adds, IsWithin}
 use Rattle.tel_engine.specs.declared.ends.LengthEnd.{LengthEnd}
 use Rattle.tel_engine.specs.declared.ends.EngineFault.{EngineFault}
 use Rattle.tel_engine.specs.declared.ends.EngineFault.TheVariants.{Write, Memory}
-use Rattle.tel_engine.specs.Ends.{End, IsEnd, Tells}
+use Rattle.tel_engine.specs.Ends.{End, IsEnd, most_counted, Tells}
 
 -- ---- what is printed
 
 -- an end of the listing, whose text was printed whole
 pub record PrintsWhole (text : End → List ℕ) (program : Ground) (n models : ℕ) (conflicts : Option ℕ) (answer : LengthEnd) (old new : Option (List ℕ)) : Type 0 where
   pub end : End
-  pub is_end : IsEnd program n models conflicts end
+  pub is_end : IsEnd (list_of program n) models conflicts (most_counted program n) end
   pub tells : Tells end answer
   pub printed : Appends old new (text end)
 
 -- an end of the listing, of whose text a front was printed
 pub record PrintsFront (text : End → List ℕ) (program : Ground) (n models : ℕ) (conflicts : Option ℕ) (old new : Option (List ℕ)) : Type 0 where
   pub end : End
-  pub is_end : IsEnd program n models conflicts end
+  pub is_end : IsEnd (list_of program n) models conflicts (most_counted program n) end
   pub printed : AppendsFront old new (text end)
 
 -- What was added to the sink and what its count of faults says: the text of an end and no fault; or a front of one, and a fault where it is the

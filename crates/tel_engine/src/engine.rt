@@ -33,6 +33,8 @@ pub struct Engine<F: Drop> {
     search: Search<F>,
     length: u32,
     stage: Stage,
+    // an `extend` has answered want of memory, which may leave the search with more variables than its length has
+    wide: bool,
 }
 
 impl<F: Drop> Model for Engine<F> {
@@ -42,7 +44,7 @@ impl<F: Drop> Model for Engine<F> {
 
     ghost view = { λ engine. view_of engine.template engine.space engine.search engine.length engine.stage };
 
-    ghost invariant = { λ engine. IsEngine engine.template engine.space engine.search engine.length engine.stage };
+    ghost invariant = { λ engine. IsEngine engine.template engine.space engine.search engine.length engine.stage engine.wide };
 }
 
 impl<F: Founded + Drop> Engine<F> {
@@ -71,6 +73,7 @@ impl<F: Founded + Drop> Engine<F> {
             search: Search::new(alloc, founded),
             length: 0,
             stage: Stage::Listed,
+            wide: false,
         }
     }
 
@@ -82,7 +85,7 @@ impl<F: Founded + Drop> Engine<F> {
     }
 
     /// Goes on to the next length: adds the module of its last state, with the clauses of the module. On want of memory the
-    /// engine is as before.
+    /// engine is as before, but from then on its listings may answer want of memory, too.
     pub fn extend(&mut self) -> Result<(), Memory>
         requires within { self.old.length < self.old.greatest }
         requires usable { self.old.stage ≢ Stage.Lost }
@@ -95,7 +98,10 @@ impl<F: Founded + Drop> Engine<F> {
     {
         let step = module(self.alloc, &self.template, &self.space, self.length)?;
         let clauses = clauses(self.alloc, &step)?;
+        let wide = self.wide;
+        self.wide = true;
         self.search.extend(&step, clauses.as_slice())?;
+        self.wide = wide;
         self.length += 1;
         self.stage = Stage::Extended;
         Ok(())
@@ -123,6 +129,9 @@ impl<F: Founded + Drop> Engine<F> {
         ensures log { log.new ≡ log.old }
     {
         self.stage = Stage::Lost;
+        if self.wide {
+            return Err(EngineFault::Memory);
+        }
         let mut listing = Listing::begin(&mut self.search, self.space, self.length, conflicts);
         match print_listing(
             self.alloc,

@@ -1,7 +1,9 @@
 //! The traces of a length, printed as they are found.
 
-ghost use Rattle.std.specs.Prelude.{◌≡◌, [], IfOk, OnOk};
+ghost use Rattle.std.specs.Prelude.{◌≡◌, ◌+◌, ◌*◌, ◌≤◌, [], IfOk, OnOk};
 ghost use Rattle.tel_rule.specs.Ground.{IsGround};
+ghost use Rattle.atom_space.specs.Numbers.{width};
+ghost use Rattle.formula_unfold.specs.Nodes.{counts_of};
 ghost use Rattle.trace_list.specs.Lengths.{HasLeft};
 ghost use Rattle.trace_list.specs.Listing.{IsListing};
 ghost use Rattle.tel_engine.specs.Lists.{lines_of, text_of, Prints, Keeps};
@@ -28,9 +30,11 @@ fn print_traces<F: Founded + Drop, O: Sink>(
 ) -> Result<LengthEnd, EngineFault>
     requires ground { IsGround template.now }
     requires listing { IsListing template.now listing.old.n search.old.kept listing.old search.old [] }
+    requires few { search.old.vars ≤ (listing.old.n + 1) * width (counts_of template.now) }
     ensures prints { Prints (lines_of template.now) template.now listing.old.n models listing.old.conflicts result (O.bytes out.old) (O.bytes out.new) (O.faults out.old) (O.faults out.new) }
     ensures left { OnOk result (HasLeft template.now listing.old.n search.new) }
     ensures keeps { IfOk result (λ end. Keeps template.now listing.old.n listing.old.conflicts end.how search.old.kept search.new.kept) }
+    ensures vars { search.new.vars ≡ search.old.vars }
 {
     let mut traces: u64 = 0;
     'listing: loop {
@@ -79,9 +83,11 @@ pub fn print_listing<F: Founded + Drop, O: Sink>(
 ) -> Result<LengthEnd, EngineFault>
     requires ground { IsGround template.now }
     requires listing { IsListing template.now n search.old.kept listing.old search.old [] }
+    requires few { search.old.vars ≤ (n + 1) * width (counts_of template.now) }
     ensures prints { Prints (text_of template.now n) template.now n models listing.old.conflicts result (O.bytes out.old) (O.bytes out.new) (O.faults out.old) (O.faults out.new) }
     ensures left { OnOk result (HasLeft template.now n search.new) }
     ensures keeps { IfOk result (λ end. Keeps template.now n listing.old.conflicts end.how search.old.kept search.new.kept) }
+    ensures vars { search.new.vars ≡ search.old.vars }
 {
     match print_length(out, n) {
         Ok(()) => {}

@@ -4,13 +4,14 @@ use Rattle.trace_list.specs.declared.stages.Next.{Next}
 use Rattle.trace_list.specs.Listing.{Goes}
 use Rattle.tel_engine.proofs.Printable.{last-below}
 use Rattle.tel_engine.proofs.Left.{left_falls}
-use Rattle.tel_engine.proofs.Printed.{printed_start, printed_memory, printed_write, printed_more, printed_limit, printed_complete, printed_spent, listing_left, listing_few, spent_all}
+use Rattle.tel_engine.proofs.Printed.{printed_start, printed_memory, printed_write, printed_more, printed_limit, printed_complete, printed_spent, spent_small, listing_left, listing_few, spent_all}
 use Rattle.tel_engine.proofs.printing.print_traces.Goals as goal
 
 pub listing-init : goal.listing-init
 listing-init g c = record {
   printed = printed_start c.args.template.now c.args.listing.now.n c.args.search.now.kept c.args.models c.args.listing.now c.args.search.now (g.O.Sink.bytes c.args.out.now) (g.O.Sink.faults c.args.out.now) c.requires.listing;
   conflicts = refl;
+  vars = refl;
 }
 
 pub next_trace-requires : goal.next_trace-requires
@@ -41,6 +42,7 @@ returns-in-Spent-clause-prints g c =
     let went = subst (λ (next : Next). Goes c.args.template.now c.args.listing.now.n c.args.search.now.kept c.listing.invariant.printed.traces c.next_trace.new.self c.next_trace.new.search next) c.in-Spent.is (c.in-Ok.ensures.goes c.args.template.now c.args.listing.now.n c.args.search.now.kept c.listing.invariant.printed.traces c.requires.ground c.listing.invariant.printed.listed) in
     let conflicts = c.in-Ok.ensures.conflicts ∙ c.listing.invariant.conflicts in
     printed_spent c.args.template.now c.args.listing.now.n c.args.search.now.kept c.args.models c.listing.listing c.listing.search c.listing.traces (g.O.Sink.bytes c.args.out.now) (g.O.Sink.bytes c.listing.out) (g.O.Sink.faults c.args.out.now) (g.O.Sink.faults c.listing.out) c.listing.invariant.printed c.args.listing.now.conflicts went.1.counted (sym conflicts ∙ went.1.budget)
+    (spent_small c.args.template.now c.args.listing.now.n c.args.search.now.kept c.next_trace.new.self.conflicts c.next_trace.new.search c.args.search.now.vars went.1 (c.in-Ok.ensures.vars ∙ c.listing.invariant.vars) c.requires.few)
 
 pub returns-in-Spent-clause-left : goal.returns-in-Spent-clause-left
 returns-in-Spent-clause-left g c =
@@ -91,4 +93,5 @@ listing-preserved g c =
     record {
       printed = printed_more c.args.template.now c.args.listing.now.n c.args.search.now.kept c.args.models c.listing.listing c.listing.search c.listing.traces (g.O.Sink.bytes c.args.out.now) (g.O.Sink.bytes c.listing.out) (g.O.Sink.faults c.args.out.now) (g.O.Sink.faults c.listing.out) c.listing.invariant.printed c.next_trace.new.self c.next_trace.new.search c.in-Trace.trace c.saturating_add-traces.result (g.O.Sink.bytes c.print_trace.new.out) (g.O.Sink.faults c.print_trace.new.out) went.0 went.1 c.in-Ok-print_trace.ensures.ok c.in-Ok-print_trace.ensures.cause.stands c.saturating_add-traces.ensures range c.if-traces-models.false;
       conflicts = c.in-Ok.ensures.conflicts ∙ c.listing.invariant.conflicts;
+      vars = c.next_trace.ensures.vars ∙ c.listing.invariant.vars;
     }

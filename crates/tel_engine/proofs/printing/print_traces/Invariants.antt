@@ -7,6 +7,7 @@ abbrev pub invariant-listing : goal.invariant-listing
 invariant-listing g l = record {
   printed : IsPrinted l.template l.fn.listing.n l.fn.search.kept l.models l.listing l.search l.traces (g.O.Sink.bytes l.initial.out) (g.O.Sink.bytes l.out) (g.O.Sink.faults l.initial.out) (g.O.Sink.faults l.out);
   conflicts : l.listing.conflicts ≡ l.initial.listing.conflicts;
+  vars : l.search.vars ≡ l.initial.search.vars;
 }
 
 abbrev pub decreases-listing : goal.decreases-listing

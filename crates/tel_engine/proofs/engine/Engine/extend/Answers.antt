@@ -1,6 +1,7 @@
 use Rattle.std.proofs.Common.{◌∙◌, ◌+◌, ◌<◌, ◌≤◌, sym, ap, subst, arith}
+use Rattle.std.proofs.lemmas.Bool.{false≢true}
 use Rattle.tel_engine.specs.Engines.{View}
-use Rattle.tel_engine.proofs.Steps.{usable_left, at_stays, step_vars, step_clauses, at_next}
+use Rattle.tel_engine.proofs.Steps.{usable_left, at_stays, step_vars, step_clauses, next_vars, at_next}
 use Rattle.tel_engine.proofs.engine.Engine.extend.Goals as goal
 
 pub extend-requires-clause-vars : goal.extend-requires-clause-vars
@@ -24,6 +25,7 @@ invariant_of-self g c =
       counts = engine.counts;
       small = engine.small;
       within = engine.within;
+      few = λ narrow. absurd (false≢true (sym narrow));
       at = at_stays i.template i.length i.search c.extend.new.self i.stage c.in_err-extend.ensures.err engine.at;
     }
 
@@ -40,6 +42,7 @@ invariant_of-self-2 g c =
       counts = engine.counts;
       small = engine.small;
       within = next;
+      few = λ narrow. next_vars i.template i.length c.in_ok-step.step c.as_slice.result.now c.in_ok-step.ensures (c.as_slice.ensures.value ∙ c.in_ok-clauses.ensures) i.search c.extend.new.self engine.ground (engine.few narrow) added.vars;
       at = at_next i.template i.length c.in_ok-step.step c.as_slice.result.now c.in_ok-step.ensures (c.as_slice.ensures.value ∙ c.in_ok-clauses.ensures) i.search c.extend.new.self left
           (record { rules = added.ground.0; parts = added.ground.1; kept = added.kept; vars = added.vars });
     }
