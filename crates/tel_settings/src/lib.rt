@@ -6,6 +6,7 @@ mod command;
 mod fields;
 mod pieces;
 mod running;
+mod senses;
 
 pub use command::settings;
 pub use fields::{Input, Settings, SettingsFault, Stop, Word};

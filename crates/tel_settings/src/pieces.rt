@@ -3,21 +3,42 @@ ghost use Rattle.std.specs.List.{list_all};
 ghost use Rattle.std.specs.Option.{option_copied};
 ghost use Rattle.std.specs.Char.{is_ascii_digit};
 ghost use Rattle.tel_base.specs.Digits.{decimal};
-ghost use Rattle.tel_settings.specs.Words.{is_number, limit_of, stop_of, is_file, after_name, piece_of};
+ghost use Rattle.tel_settings.specs.Words.{number_from, stop_of, conflicts_of, piece_of, after_name, is_plain, name_of, assigned};
 
 use crate::fields::Stop;
 
-/// What a word of the command line is.
+/// An option of the command.
+#[derive(Clone, Copy)]
+pub enum Name {
+    /// `--imin`
+    Imin,
+    /// `--imax`
+    Imax,
+    /// `--istop`
+    Istop,
+    /// `--models`
+    Models,
+    /// `--conflicts`
+    Conflicts,
+    /// `--generate`
+    Generate,
+}
+
+/// What an option says.
 #[derive(Clone, Copy)]
 pub enum Piece {
-    /// The name of a file.
-    File,
     /// The least length.
     Imin(u32),
     /// The greatest length.
     Imax(u32),
     /// The stop rule.
     Istop(Stop),
+    /// How many traces are printed of each length at the most.
+    Models(u64),
+    /// The budget of conflicts, where there is one.
+    Conflicts(Option<u64>),
+    /// The number of the generated text.
+    Generate(u32),
 }
 
 /// The greatest value of a limit.
@@ -44,16 +65,27 @@ fn value_of(digits: &[u8]) -> Option<u64>
     Some(value)
 }
 
-/// The limit that a number of 1 to 20 digits gives.
-fn limit_of(digits: &[u8]) -> Option<u32>
-    ensures { result ≡ limit_of digits.now }
+/// The value of a number of 1 to 20 digits, where it is `least` to `most`.
+fn number_from(least: u64, most: u64, digits: &[u8]) -> Option<u64>
+    ensures value { result ≡ number_from least most digits.now }
+    ensures bound { IfSome result (λ value. value ≤ most) }
 {
     if digits.is_empty() || digits.len() > 20 {
         return None;
     }
     match value_of(digits) {
-        Some(value) if value <= MOST => Some(value as u32),
+        Some(value) if least <= value && value <= most => Some(value),
         _ => None,
+    }
+}
+
+/// The same, of a limit.
+fn limit_from(least: u64, digits: &[u8]) -> Option<u32>
+    ensures { result ≡ number_from least 1000 digits.now }
+{
+    match number_from(least, MOST, digits) {
+        Some(value) => Some(value as u32),
+        None => None,
     }
 }
 
@@ -72,6 +104,61 @@ fn stop_of(name: &[u8]) -> Option<Stop>
     }
 }
 
+/// The budget of conflicts that this value says.
+fn conflicts_of(value: &[u8]) -> Option<Option<u64>>
+    ensures { result ≡ conflicts_of value.now }
+{
+    if value == b"none".as_slice() {
+        return Some(None);
+    }
+    match number_from(0, u64::MAX, value) {
+        Some(number) => Some(Some(number)),
+        None => None,
+    }
+}
+
+/// What the option of this name says with this value.
+pub fn piece_of(name: Name, value: &[u8]) -> Option<Piece>
+    ensures { result ≡ piece_of name value.now }
+{
+    match name {
+        Name::Imin => limit_from(0, value).map(Piece::Imin),
+        Name::Imax => limit_from(0, value).map(Piece::Imax),
+        Name::Istop => stop_of(value).map(Piece::Istop),
+        Name::Models => number_from(0, u64::MAX, value).map(Piece::Models),
+        Name::Conflicts => conflicts_of(value).map(Piece::Conflicts),
+        Name::Generate => limit_from(1, value).map(Piece::Generate),
+    }
+}
+
+/// Whether a word is `-`, or doesn't begin with `-`.
+pub fn is_plain(word: &[u8]) -> bool
+    ensures { result ≡ is_plain word.now }
+{
+    word == b"-".as_slice() || !word.starts_with(b"-")
+}
+
+/// The option that a word names.
+pub fn name_of(word: &[u8]) -> Option<Name>
+    ensures { result ≡ name_of word.now }
+{
+    if word == b"--imin".as_slice() {
+        Some(Name::Imin)
+    } else if word == b"--imax".as_slice() {
+        Some(Name::Imax)
+    } else if word == b"--istop".as_slice() {
+        Some(Name::Istop)
+    } else if word == b"--models".as_slice() {
+        Some(Name::Models)
+    } else if word == b"--conflicts".as_slice() {
+        Some(Name::Conflicts)
+    } else if word == b"--generate".as_slice() {
+        Some(Name::Generate)
+    } else {
+        None
+    }
+}
+
 /// What stands after a name in a word that begins with it.
 fn after_name<'a>(name: &[u8], word: &'a [u8]) -> Option<&'a [u8]>
     ensures { option_copied result ≡ after_name name.now word.now }
@@ -79,28 +166,27 @@ fn after_name<'a>(name: &[u8], word: &'a [u8]) -> Option<&'a [u8]>
     word.strip_prefix(name)
 }
 
-/// Whether a word is the name of a file.
-fn is_file(word: &[u8]) -> bool
-    ensures { result ≡ is_file word.now }
+/// What a word `--name=value` says.
+pub fn assigned(word: &[u8]) -> Option<Piece>
+    ensures { result ≡ assigned word.now }
 {
-    word == b"-".as_slice() || !word.starts_with(b"-")
-}
-
-/// What a word is, unless it is wrong.
-pub fn piece_of(word: &[u8]) -> Option<Piece>
-    ensures { result ≡ piece_of word.now }
-{
-    if is_file(word) {
-        return Some(Piece::File);
+    if let Some(value) = after_name(b"--imin=", word) {
+        return piece_of(Name::Imin, value);
     }
-    if let Some(digits) = after_name(b"--imin=", word) {
-        return limit_of(digits).map(Piece::Imin);
+    if let Some(value) = after_name(b"--imax=", word) {
+        return piece_of(Name::Imax, value);
     }
-    if let Some(digits) = after_name(b"--imax=", word) {
-        return limit_of(digits).map(Piece::Imax);
+    if let Some(value) = after_name(b"--istop=", word) {
+        return piece_of(Name::Istop, value);
     }
-    match after_name(b"--istop=", word) {
-        Some(name) => stop_of(name).map(Piece::Istop),
+    if let Some(value) = after_name(b"--models=", word) {
+        return piece_of(Name::Models, value);
+    }
+    if let Some(value) = after_name(b"--conflicts=", word) {
+        return piece_of(Name::Conflicts, value);
+    }
+    match after_name(b"--generate=", word) {
+        Some(value) => piece_of(Name::Generate, value),
         None => None,
     }
 }
