@@ -2,3 +2,4 @@ pub mod Theories
 pub mod Verdicts
 pub mod Runs
 pub mod Capped
+pub mod Lengths

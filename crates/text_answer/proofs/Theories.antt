@@ -1,23 +1,22 @@
 -- A template that a program is instantiated to runs as the program's theory.
-use Rattle.std.proofs.Common.{◌≡◌, ℕ, ◌+◌, ◌≤◌, List, length, sym, ap, ◌∙◌, subst, arith}
-use Rattle.std.specs.List.{flat_map}
+use Rattle.std.proofs.Common.{◌≡◌, ℕ, ◌+◌, ◌*◌, ◌^◌, ◌≤◌, ◌⊎◌, inl, inr, false, List, [], ◌∷◌, length, Option, None, IfSome, refl, sym, ap, ◌∙◌, subst, arith}
 use Rattle.std.proofs.lemmas.List.{length-map}
 use Rattle.tel_base.specs.declared.places.Place.{Place}
+use Rattle.tel_base.specs.Bytes.{AppendsFront}
 use Rattle.tel_term.specs.declared.terms.Term.{Term}
 use Rattle.tel_term.specs.declared.terms.Value.{Value}
 use Rattle.tel_rule.specs.declared.statements.Statement.{Statement}
 use Rattle.tel_rule.specs.declared.statements.Program.{Program}
 use Rattle.tel_rule.specs.declared.ground.Show.TheVariants as shows
 use Rattle.tel_rule.specs.Ground.{Ground, IsGround}
-use Rattle.tel_semantics.specs.declared.ends.How.TheVariants.{Complete}
-use Rattle.tel_semantics.specs.Equilibrium.{list_of}
 use Rattle.tel_settings.specs.declared.fields.Settings.{Settings}
-use Rattle.tel_settings.specs.Run.{lengths_of, run_status}
+use Rattle.tel_engine.specs.Ends.{End, whole_end, IsEnd, most_counted}
+use Rattle.tel_engine.specs.Lists.{text_of}
 use Rattle.instance_build.proofs.Said.{instances_mean_rules}
 use Rattle.instance_build.proofs.Rows.{rows_mean_instances}
 use Rattle.theory_lists.specs.Atoms.{atom_over}
 use Rattle.theory_lists.specs.Theories.{ProgramTheory, Means}
-use Rattle.theory_lists.specs.Print.{print_theory}
+use Rattle.theory_lists.specs.Lists.{equilibria}
 use Rattle.theory_lists.proofs.SameLists.{lists-same}
 use Rattle.theory_lists.proofs.SamePrint.{prints-same}
 use Rattle.program_theory.specs.Theory.{IsTheoryOf, width_of}
@@ -31,8 +30,10 @@ use Rattle.range_faults.specs.Ranges.{NoneLeavesRange, IsFirstLeaving}
 use Rattle.part_syntax.specs.Programs.{IsProgram, total_bytes}
 use Rattle.checked_programs.proofs.Ready.{is_readable}
 use Rattle.fact_instantiate.specs.Instantiated.{template_width, IsInstantiated}
-use Rattle.text_answer.specs.Running.{template_count, template_length, template_run}
-use Rattle.text_answer.specs.Verdict.{largest_text, count_of, printed_length, printed_run}
+use Rattle.text_answer.specs.Runs.{AreEnds, Runs}
+use Rattle.text_answer.specs.Running.{IsTemplateEnd, RunsTemplate}
+use Rattle.text_answer.specs.Verdict.{largest_text, most_clauses, IsLengthEnd, IsWholeEnd, IsAmple, length_text, RunsTheory}
+use Rattle.text_answer.proofs.Runs.{runs-map, running_start, short_before}
 
 -- ---- templates
 
@@ -52,22 +53,47 @@ same_width program greatest template live theory nots ground made is =
 
 -- ---- what is run
 
-same_counts : (template : Ground) (theory : ProgramTheory) → IsGround template → Means template theory → template_count template ≡ count_of theory
-same_counts template theory ground means = λ i n. length (lists-same template theory n ground means i)
+-- the ends of a length of a template, and their text, are those of the theory that it means
+same_ends : (settings : Settings) (template : Ground) (theory : ProgramTheory) (places : ℕ) → IsGround template → Means template theory → template_width template ≡ places → IsTemplateEnd settings template ≡ IsLengthEnd settings theory places
+unfolding most_counted most_clauses
+same_ends settings template theory places ground means wide =
+    λ i n end. IsEnd (lists-same template theory n ground means i) settings.models settings.conflicts (3 ^ ((n + 1) * wide i)) end
 
-same_lengths : (template : Ground) (theory : ProgramTheory) → template.show ≡ shows.All → IsGround template → Means template theory → template_length template ≡ printed_length theory
-same_lengths template theory show ground means =
-    (λ i n. prints-same template theory n (list_of template n) Complete show means i)
-    ∙ (λ i n. print_theory theory n (lists-same template theory n ground means i) Complete)
+same_texts : (template : Ground) (theory : ProgramTheory) → template.show ≡ shows.All → Means template theory → text_of template ≡ length_text theory
+same_texts template theory show means = λ i n end. prints-same template theory n end.traces end.how show means i
 
 -- the run of a template is that of the theory that it means, with its status
-pub same_run : (D : ℕ → List ℕ → Type 0) (settings : Settings) (template : Ground) (theory : ProgramTheory) → template.show ≡ shows.All → IsGround template → Means template theory
-    → D (run_status settings (template_count template)) (template_run settings template) → D (run_status settings (count_of theory)) (printed_run settings theory)
-same_run D settings template theory show ground means runs =
-    let counts = same_counts template theory ground means in
-    let status : run_status settings (template_count template) ≡ run_status settings (count_of theory) = ap (run_status settings) counts in
-    let bytes : template_run settings template ≡ printed_run settings theory = (λ i. flat_map (same_lengths template theory show ground means i) (lengths_of settings (counts i))) in
-    subst (λ (b : List ℕ). D (run_status settings (count_of theory)) b) bytes (subst (λ (n : ℕ). D n (template_run settings template)) status runs)
+pub same_run : (D : ℕ → List ℕ → Type 0) (settings : Settings) (template : Ground) (theory : ProgramTheory) (places : ℕ) → template.show ≡ shows.All → IsGround template → Means template theory → template_width template ≡ places → RunsTemplate settings template D → RunsTheory D settings theory places
+same_run D settings template theory places show ground means wide runs =
+    subst (λ (text : ℕ → End → List ℕ). Runs (IsLengthEnd settings theory places) text settings D) (same_texts template theory show means)
+    (subst (λ (IsOne : ℕ → End → Type 0). Runs IsOne (text_of template) settings D) (same_ends settings template theory places ground means wide) runs)
+
+-- each length of a theory has an end, and so the theory has a run
+some_end : (settings : Settings) (theory : ProgramTheory) (places n : ℕ) → (end : End) × IsLengthEnd settings theory places n end
+some_end settings theory places n = (whole_end (equilibria theory n) settings.models, inl refl)
+
+pub some_run : (D : ℕ → List ℕ → Type 0) (settings : Settings) (theory : ProgramTheory) (places : ℕ) → ((status : ℕ) (bytes : List ℕ) → D status bytes) → RunsTheory D settings theory places
+some_run D settings theory places all =
+    let IsOne = IsLengthEnd settings theory places in
+    let text = length_text theory in
+    runs-map IsOne text settings (λ status bytes. AppendsFront None None bytes) D (λ status bytes _. all status bytes)
+    (short_before IsOne text settings 0 false false None None 0 0 (running_start IsOne text settings None 0) (some_end settings theory places))
+
+-- ---- budgets
+
+-- an ample budget cuts no length
+pub ample-whole : (settings : Settings) (theory : ProgramTheory) (places greatest k : ℕ) (ends : List End) → k + length ends ≤ greatest + 1 → IsAmple settings.conflicts places greatest → AreEnds (IsLengthEnd settings theory places) k ends → AreEnds (IsWholeEnd settings theory) k ends
+ample-whole settings theory places greatest k [] few ample are = tt
+ample-whole settings theory places greatest k (end ∷ more) few ample are = (
+  elim are.0 [
+    | inl whole ↦ whole
+    | inr cut ↦
+        let enough = subst (λ (o : Option ℕ). IfSome o (λ budget. (n : ℕ) → n ≤ greatest → most_clauses places n ≤ budget)) cut.given ample k (omega (arith, few)) in
+        let small = cut.small in
+        absurd (omega (arith, enough, small))
+  ],
+  ample-whole settings theory places greatest (k + 1) more (omega (arith, few)) ample are.1,
+)
 
 -- ---- ranges
 

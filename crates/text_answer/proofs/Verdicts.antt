@@ -1,15 +1,16 @@
 -- Texts have one verdict, and a status that tells of them is the verdict's.
-use Rattle.std.proofs.Common.{◌≡◌, ◌≢◌, ℕ, zero, suc, ◌*◌, ◌<◌, ◌≤◌, ◌⊎◌, max, IsTrue, inl, inr, Bool, true, false, cond, refl, List, [], ◌∷◌, Option, Some, None, sym, ◌∙◌, subst, nat_lt, arith}
+use Rattle.std.proofs.Common.{◌≡◌, ◌≢◌, ℕ, zero, suc, ◌*◌, ◌<◌, ◌≤◌, ◌⊎◌, max, inl, inr, Bool, true, false, cond, refl, List, [], ◌∷◌, length, map, Option, Some, None, sym, ◌∙◌, subst, nat_lt, arith}
 use Rattle.std.specs.List.{list_any}
 use Rattle.std.proofs.lemmas.Bool.{false≢true, cases_lt}
 use Rattle.tel_base.specs.declared.places.Place.{Place}
+use Rattle.tel_base.specs.Bytes.{Appends}
 use Rattle.tel_base.specs.Counts.{Rose, Stands}
 use Rattle.tel_base.proofs.Told.{stands-not-rose, front-of-nothing}
 use Rattle.tel_term.specs.declared.terms.Value.{Value}
 use Rattle.tel_rule.specs.declared.statements.Program.{Program}
 use Rattle.tel_rule.specs.Ground.{Ground, IsGround}
 use Rattle.tel_settings.specs.declared.fields.Settings.{Settings}
-use Rattle.tel_settings.specs.Run.{lengths_of, run_status}
+use Rattle.tel_settings.specs.Run.{Ending, is_unfinished, run_status}
 use Rattle.part_syntax.specs.declared.fault.ReadFault.{ReadFault}
 use Rattle.part_syntax.specs.declared.fault.ReadFault.TheVariants as faults
 use Rattle.part_syntax.specs.Programs.{IsProgram, IsFirstFault, total_bytes}
@@ -36,12 +37,31 @@ use Rattle.instance_laws.proofs.Rows.{rows-instances, rows-decided}
 use Rattle.instance_laws.proofs.Leaving.{some-none, first-one}
 use Rattle.fact_instantiate.specs.declared.fault.GroundFault.TheVariants as grounding
 use Rattle.fact_instantiate.specs.Instantiated.{most_places, template_width, IsInstantiated, IsGroundFault}
-use Rattle.text_answer.specs.Running.{template_count, template_run}
+use Rattle.text_answer.specs.Runs.{ending_of, texts_from}
+use Rattle.text_answer.specs.Running.{RunsTemplate}
 use Rattle.text_answer.specs.Shown.{first_shown}
-use Rattle.text_answer.specs.Verdict.{largest_text, Verdict, Accepted, Refused, Unbuilt, Faulty, Leaving, Large, SayUnshown, SayChecked, SayLarge, IsVerdict, places_in, count_of, status_of, output_of, cause_line, large_line, range_line, unbuilt_line, fault_line, TellsOfText, ComesOfText, is_among, Answers}
+use Rattle.text_answer.specs.Verdict.{largest_text, Verdict, Accepted, Refused, Unbuilt, Faulty, Leaving, Large, SayUnshown, SayChecked, SayLarge, IsVerdict, places_in, length_text, IsLengthEnd, HasOutcome, Completes, cause_line, large_line, range_line, unbuilt_line, fault_line, TellsOfText, ComesOfText, Answers}
 use Rattle.text_answer.specs.Refusals.{DeliversFault, DeliversCause, DeliversProgram, DeliversUnshown, DeliversRead}
 use Rattle.checked_programs.proofs.Ready.{is_ready}
-use Rattle.text_answer.proofs.Theories.{meant, same_width, same_run, none_first, texts_readable}
+use Rattle.text_answer.proofs.Runs.{runs-map}
+use Rattle.text_answer.proofs.Theories.{meant, same_width, same_run, some_run, ample-whole, none_first, texts_readable}
+
+-- what holds of each status and all bytes holds of those of an outcome
+outcome_all : (D : ℕ → List ℕ → Type 0) (settings : Settings) (verdict : Verdict) → ((status : ℕ) (bytes : List ℕ) → D status bytes) → HasOutcome D settings verdict
+outcome_all D settings (Accepted theory width) all = some_run D settings theory width all
+outcome_all D settings (Refused fault) all = all 65 (fault_line fault)
+outcome_all D settings (Unbuilt place) all = all 65 (unbuilt_line place)
+outcome_all D settings (Faulty cause) all = all 65 (cause_line cause)
+outcome_all D settings (Leaving place) all = all 65 (range_line place)
+outcome_all D settings Large all = all 69 large_line
+
+outcome_map : (D E : ℕ → List ℕ → Type 0) (settings : Settings) (verdict : Verdict) → ((status : ℕ) (bytes : List ℕ) → D status bytes → E status bytes) → HasOutcome D settings verdict → HasOutcome E settings verdict
+outcome_map D E settings (Accepted theory width) then has = runs-map (IsLengthEnd settings theory width) (length_text theory) settings D E then has
+outcome_map D E settings (Refused fault) then has = then 65 (fault_line fault) has
+outcome_map D E settings (Unbuilt place) then has = then 65 (unbuilt_line place) has
+outcome_map D E settings (Faulty cause) then has = then 65 (cause_line cause) has
+outcome_map D E settings (Leaving place) then has = then 65 (range_line place) has
+outcome_map D E settings Large then has = then 69 large_line has
 
 -- what is delivered for a program is so for what the texts say it is
 unshown-delivers : (D : ℕ → List ℕ → Type 0) (settings : Settings) (texts : List (List ℕ)) (program : Program) → ((other : Program) → IsProgram texts other → other ≡ program) → DeliversRead D settings program → (other : Program) → SayUnshown texts other → DeliversUnshown D settings other
@@ -54,10 +74,10 @@ checked-delivers D settings texts program only delivers checked says =
     (unshown-delivers D settings texts program only delivers says.source says.unshown).checked says.sound checked says.replaced
 
 -- what is delivered for texts that are a program, whatever their verdict is said to be
-pub program-delivers : (D : ℕ → List ℕ → Type 0) (settings : Settings) (texts : List (List ℕ)) (program : Program) → total_bytes texts ≤ largest_text → ((other : Program) → IsProgram texts other → other ≡ program) → ((fault : ReadFault) → IsFirstFault texts fault → ⊥) → DeliversRead D settings program → (verdict : Verdict) → IsVerdict settings texts verdict → D (status_of settings verdict) (output_of settings verdict)
-program-delivers D settings texts program small only sound delivers (Accepted theory) v =
+pub program-delivers : (D : ℕ → List ℕ → Type 0) (settings : Settings) (texts : List (List ℕ)) (program : Program) → total_bytes texts ≤ largest_text → ((other : Program) → IsProgram texts other → other ≡ program) → ((fault : ReadFault) → IsFirstFault texts fault → ⊥) → DeliversRead D settings program → (verdict : Verdict) → IsVerdict settings texts verdict → HasOutcome D settings verdict
+program-delivers D settings texts program small only sound delivers (Accepted theory width) v =
     let says = v.1 in
-    (checked-delivers D settings texts program only delivers says.program says.checked).accepted says.ranges says.live theory says.is says.few
+    (checked-delivers D settings texts program only delivers says.program says.checked).accepted says.ranges says.live theory says.is width says.wide says.few
 program-delivers D settings texts program small only sound delivers (Refused fault) v = absurd (sound fault v.1)
 program-delivers D settings texts program small only sound delivers (Unbuilt place) v =
     let says = v.1 in
@@ -74,8 +94,8 @@ program-delivers D settings texts program small only sound delivers Large (inr v
     (checked-delivers D settings texts program only delivers says.program says.checked).large says.ranges says.live says.theory says.is says.many
 
 -- the same for texts that are no program, whose first fault is this one
-pub refused-delivers : (D : ℕ → List ℕ → Type 0) (settings : Settings) (texts : List (List ℕ)) (fault : ReadFault) → total_bytes texts ≤ largest_text → ((other : ReadFault) → IsFirstFault texts other → other ≡ fault) → ((program : Program) → IsProgram texts program → ⊥) → D 65 (fault_line fault) → (verdict : Verdict) → IsVerdict settings texts verdict → D (status_of settings verdict) (output_of settings verdict)
-refused-delivers D settings texts fault small first none delivered (Accepted theory) v = let says = v.1 in absurd (none says.checked.source says.checked.unshown.reads)
+pub refused-delivers : (D : ℕ → List ℕ → Type 0) (settings : Settings) (texts : List (List ℕ)) (fault : ReadFault) → total_bytes texts ≤ largest_text → ((other : ReadFault) → IsFirstFault texts other → other ≡ fault) → ((program : Program) → IsProgram texts program → ⊥) → D 65 (fault_line fault) → (verdict : Verdict) → IsVerdict settings texts verdict → HasOutcome D settings verdict
+refused-delivers D settings texts fault small first none delivered (Accepted theory width) v = let says = v.1 in absurd (none says.checked.source says.checked.unshown.reads)
 refused-delivers D settings texts fault small first none delivered (Refused other) v =
     subst (λ (f : ReadFault). D 65 (fault_line f)) (sym (first other v.1)) delivered
 refused-delivers D settings texts fault small first none delivered (Unbuilt place) v = let says = v.1 in absurd (none says.program says.reads)
@@ -85,8 +105,8 @@ refused-delivers D settings texts fault small first none delivered Large (inl lo
 refused-delivers D settings texts fault small first none delivered Large (inr v) = let says = v.1 in absurd (none says.checked.source says.checked.unshown.reads)
 
 -- and for texts that are too long
-pub long-delivers : (D : ℕ → List ℕ → Type 0) (settings : Settings) (texts : List (List ℕ)) → largest_text < total_bytes texts → D 69 large_line → (verdict : Verdict) → IsVerdict settings texts verdict → D (status_of settings verdict) (output_of settings verdict)
-long-delivers D settings texts long delivered (Accepted theory) v = absurd (omega (arith, v.0))
+pub long-delivers : (D : ℕ → List ℕ → Type 0) (settings : Settings) (texts : List (List ℕ)) → largest_text < total_bytes texts → D 69 large_line → (verdict : Verdict) → IsVerdict settings texts verdict → HasOutcome D settings verdict
+long-delivers D settings texts long delivered (Accepted theory width) v = absurd (omega (arith, v.0))
 long-delivers D settings texts long delivered (Refused fault) v = absurd (omega (arith, v.0))
 long-delivers D settings texts long delivered (Unbuilt place) v = absurd (omega (arith, v.0))
 long-delivers D settings texts long delivered (Faulty cause) v = absurd (omega (arith, v.0))
@@ -99,16 +119,17 @@ pub record IsFaultOf (texts : List (List ℕ)) (fault : ReadFault) : Type 0 wher
   pub first : (other : ReadFault) → IsFirstFault texts other → other ≡ fault
   pub none : (program : Program) → IsProgram texts program → ⊥
 
-memory_cut : (settings : Settings) (verdict : Verdict) (code : ℕ) (old new : Option (List ℕ)) → code ≡ 71 → new ≡ old → Delivers code (status_of settings verdict) (output_of settings verdict) old new
-memory_cut settings verdict code old new is same = inr (inl is, front-of-nothing old new (output_of settings verdict) same)
+-- nothing was printed, for want of memory
+pub memory-delivers : (settings : Settings) (verdict : Verdict) (code : ℕ) (old new : Option (List ℕ)) → code ≡ 71 → new ≡ old → HasOutcome (λ status bytes. Delivers code status bytes old new) settings verdict
+memory-delivers settings verdict code old new is same = outcome_all (λ status bytes. Delivers code status bytes old new) settings verdict (λ status bytes. inr (inl is, front-of-nothing old new bytes same))
 
-named-delivers : (settings : Settings) (texts : List (List ℕ)) (fault : ReadFault) (code : ℕ) (old new : Option (List ℕ)) → total_bytes texts ≤ largest_text → IsFaultOf texts fault → Delivers code 65 (fault_line fault) old new → (verdict : Verdict) → IsVerdict settings texts verdict → Delivers code (status_of settings verdict) (output_of settings verdict) old new
+named-delivers : (settings : Settings) (texts : List (List ℕ)) (fault : ReadFault) (code : ℕ) (old new : Option (List ℕ)) → total_bytes texts ≤ largest_text → IsFaultOf texts fault → Delivers code 65 (fault_line fault) old new → (verdict : Verdict) → IsVerdict settings texts verdict → HasOutcome (λ status bytes. Delivers code status bytes old new) settings verdict
 named-delivers settings texts fault code old new small is delivered =
     refused-delivers (λ status bytes. Delivers code status bytes old new) settings texts fault small is.first is.none delivered
 
 -- texts with a fault have it for their verdict, unless memory runs out
-pub fault-delivers : (settings : Settings) (texts : List (List ℕ)) (fault : ReadFault) (code : ℕ) (old new : Option (List ℕ)) → total_bytes texts ≤ largest_text → (fault ≢ faults.Memory → IsFaultOf texts fault) → DeliversFault fault code old new → (verdict : Verdict) → IsVerdict settings texts verdict → Delivers code (status_of settings verdict) (output_of settings verdict) old new
-fault-delivers settings texts faults.Memory code old new small of delivered = λ verdict v. memory_cut settings verdict code old new delivered.0 delivered.1
+pub fault-delivers : (settings : Settings) (texts : List (List ℕ)) (fault : ReadFault) (code : ℕ) (old new : Option (List ℕ)) → total_bytes texts ≤ largest_text → (fault ≢ faults.Memory → IsFaultOf texts fault) → DeliversFault fault code old new → (verdict : Verdict) → IsVerdict settings texts verdict → HasOutcome (λ status bytes. Delivers code status bytes old new) settings verdict
+fault-delivers settings texts faults.Memory code old new small of delivered = λ verdict v. memory-delivers settings verdict code old new delivered.0 delivered.1
 fault-delivers settings texts (faults.BadByte place) code old new small of delivered = named-delivers settings texts (faults.BadByte place) code old new small (of (λ e. cc)) delivered
 fault-delivers settings texts (faults.NumberRange place) code old new small of delivered = named-delivers settings texts (faults.NumberRange place) code old new small (of (λ e. cc)) delivered
 fault-delivers settings texts (faults.TooDeep place) code old new small of delivered = named-delivers settings texts (faults.TooDeep place) code old new small (of (λ e. cc)) delivered
@@ -119,9 +140,13 @@ not_cut code (inl e) tells = false≢true (subst TellsOfText e tells)
 not_cut code (inr e) tells = false≢true (subst TellsOfText e tells)
 
 -- a status that tells of the texts is that of their verdict
-pub delivered-answers : (settings : Settings) (texts : List (List ℕ)) (verdict : Verdict) (code : ℕ) (old new : Option (List ℕ)) → IsVerdict settings texts verdict → Delivers code (status_of settings verdict) (output_of settings verdict) old new → TellsOfText code → Answers settings texts code old new
-delivered-answers settings texts verdict code old new is (inl whole) tells = (verdict, is, whole.0, whole.1)
-delivered-answers settings texts verdict code old new is (inr cut) tells = absurd (not_cut code cut.0 tells)
+pub delivered-answers : (settings : Settings) (texts : List (List ℕ)) (verdict : Verdict) (code : ℕ) (old new : Option (List ℕ)) → IsVerdict settings texts verdict → HasOutcome (λ status bytes. Delivers code status bytes old new) settings verdict → TellsOfText code → Answers settings texts code old new
+delivered-answers settings texts verdict code old new is has tells =
+    (verdict, is, outcome_map (λ status bytes. Delivers code status bytes old new) (λ status bytes. (code ≡ status) × Appends old new bytes) settings verdict (λ status bytes delivered. whole status bytes delivered) has)
+  where
+    whole : (status : ℕ) (bytes : List ℕ) → Delivers code status bytes old new → (code ≡ status) × Appends old new bytes
+    whole status bytes (inl done) = done
+    whole status bytes (inr cut) = absurd (not_cut code cut.0 tells)
 
 -- ---- verdicts of programs
 
@@ -137,13 +162,13 @@ many_places settings program live theory more = above settings.imax (width_of pr
         at_least (suc more) width one below = omega (arith, below)
 
 -- the verdict of a program in which no cause stands, and what is delivered for it
-placed_has : (D : ℕ → List ℕ → Type 0) (settings : Settings) (texts : List (List ℕ)) (program : Program) → total_bytes texts ≤ largest_text → SayChecked texts program → DeliversProgram D settings program → NoneLeavesRange program.statements program.symbols → (live : List (List (List Value))) (theory : ProgramTheory) → IsTheoryOf program live theory → (verdict : Verdict) × IsVerdict settings texts verdict × D (status_of settings verdict) (output_of settings verdict)
+placed_has : (D : ℕ → List ℕ → Type 0) (settings : Settings) (texts : List (List ℕ)) (program : Program) → total_bytes texts ≤ largest_text → SayChecked texts program → DeliversProgram D settings program → NoneLeavesRange program.statements program.symbols → (live : List (List (List Value))) (theory : ProgramTheory) → IsTheoryOf program live theory → (verdict : Verdict) × IsVerdict settings texts verdict × HasOutcome D settings verdict
 placed_has D settings texts program small says delivers none live theory is = elim (cases_lt most_places (places_in settings (width_of program live theory))) [
   | inl many ↦ (Large, inr (small, record { program = program; checked = says; ranges = inr none; live = live; theory = theory; is = is; many = many }), delivers.large (inr none) live theory is many)
-  | inr few ↦ (Accepted theory, (small, record { program = program; checked = says; ranges = none; live = live; is = is; few = few }), delivers.accepted none live theory is few)
+  | inr few ↦ (Accepted theory (width_of program live theory), (small, record { program = program; checked = says; ranges = none; live = live; is = is; wide = refl; few = few }), delivers.accepted none live theory is (width_of program live theory) refl few)
 ]
 
-checked_has : (D : ℕ → List ℕ → Type 0) (settings : Settings) (texts : List (List ℕ)) (program : Program) → IsReady program → total_bytes texts ≤ largest_text → SayChecked texts program → DeliversProgram D settings program → (verdict : Verdict) × IsVerdict settings texts verdict × D (status_of settings verdict) (output_of settings verdict)
+checked_has : (D : ℕ → List ℕ → Type 0) (settings : Settings) (texts : List (List ℕ)) (program : Program) → IsReady program → total_bytes texts ≤ largest_text → SayChecked texts program → DeliversProgram D settings program → (verdict : Verdict) × IsVerdict settings texts verdict × HasOutcome D settings verdict
 checked_has D settings texts program ready small says delivers =
     let live = programs-instances program ready.table in
     let theory = instances-theory program live.0 live.1 in
@@ -158,7 +183,7 @@ checked_has D settings texts program ready small says delivers =
     ]
 
 -- of a program without a `#show`
-unshown_has : (D : ℕ → List ℕ → Type 0) (settings : Settings) (texts : List (List ℕ)) (program : Program) → IsReadable program → total_bytes texts ≤ largest_text → SayUnshown texts program → DeliversUnshown D settings program → (verdict : Verdict) × IsVerdict settings texts verdict × D (status_of settings verdict) (output_of settings verdict)
+unshown_has : (D : ℕ → List ℕ → Type 0) (settings : Settings) (texts : List (List ℕ)) (program : Program) → IsReadable program → total_bytes texts ≤ largest_text → SayUnshown texts program → DeliversUnshown D settings program → (verdict : Verdict) × IsVerdict settings texts verdict × HasOutcome D settings verdict
 unshown_has D settings texts program read small says delivers =
     elim (sound_or_cause program) [
       | inl s ↦ checked_has D settings texts s.1.0 (is_ready program s.1.0 read s.0 s.1.1) small (record { source = program; unshown = says; sound = s.0; replaced = s.1.1 }) (delivers.checked s.0 s.1.0 s.1.1)
@@ -166,10 +191,10 @@ unshown_has D settings texts program read small says delivers =
     ]
 
 -- and of one that was read
-program_has : (D : ℕ → List ℕ → Type 0) (settings : Settings) (texts : List (List ℕ)) (program : Program) → IsReadable program → total_bytes texts ≤ largest_text → IsProgram texts program → DeliversRead D settings program → (verdict : Verdict) × IsVerdict settings texts verdict × D (status_of settings verdict) (output_of settings verdict)
+program_has : (D : ℕ → List ℕ → Type 0) (settings : Settings) (texts : List (List ℕ)) (program : Program) → IsReadable program → total_bytes texts ≤ largest_text → IsProgram texts program → DeliversRead D settings program → (verdict : Verdict) × IsVerdict settings texts verdict × HasOutcome D settings verdict
 program_has D settings texts program read small reads delivers = by_first (first_shown program.statements) refl
   where
-    by_first : (first : Option Place) → first_shown program.statements ≡ first → (verdict : Verdict) × IsVerdict settings texts verdict × D (status_of settings verdict) (output_of settings verdict)
+    by_first : (first : Option Place) → first_shown program.statements ≡ first → (verdict : Verdict) × IsVerdict settings texts verdict × HasOutcome D settings verdict
     by_first (Some place) is = (Unbuilt place, (small, record { program = program; reads = reads; first = is }), delivers.unbuilt place is)
     by_first None is = unshown_has D settings texts program read small (record { reads = reads; none = is }) (delivers.unshown is)
 
@@ -186,26 +211,30 @@ fault-answers settings texts (faults.NumberRange place) code old new small of de
 fault-answers settings texts (faults.TooDeep place) code old new small of delivered tells = delivered-answers settings texts (Refused (faults.TooDeep place)) code old new (small, (of (λ e. cc)).is) delivered tells
 fault-answers settings texts (faults.Syntax place) code old new small of delivered tells = delivered-answers settings texts (Refused (faults.Syntax place)) code old new (small, (of (λ e. cc)).is) delivered tells
 
--- a run ends with 10 or 20
-run_kind : (P : ℕ → Type 0) (found : Bool) → P 10 → P 20 → P (cond found 10 20)
-run_kind P true ten twenty = ten
-run_kind P false ten twenty = twenty
+-- a run ends with 10, 20 or 30
+run_kind : (P : ℕ → Type 0) (found cut : Bool) → P 10 → P 20 → P 30 → P (cond found 10 (cond cut 30 20))
+run_kind P true cut ten twenty thirty = ten
+run_kind P false true ten twenty thirty = thirty
+run_kind P false false ten twenty thirty = twenty
 
-status_kind : (settings : Settings) (verdict : Verdict) → ComesOfText (status_of settings verdict)
-status_kind settings (Accepted theory) = run_kind ComesOfText (list_any (λ n. nat_lt 0 (count_of theory n)) (lengths_of settings (count_of theory))) refl refl
-status_kind settings (Refused fault) = refl
-status_kind settings (Unbuilt place) = refl
-status_kind settings (Faulty cause) = refl
-status_kind settings (Leaving place) = refl
-status_kind settings Large = refl
-
-pub delivered-kind : (settings : Settings) (verdict : Verdict) (code : ℕ) (old new : Option (List ℕ)) → Delivers code (status_of settings verdict) (output_of settings verdict) old new → ComesOfText code
-delivered-kind settings verdict code old new (inl whole) = subst ComesOfText (sym whole.0) (status_kind settings verdict)
-delivered-kind settings verdict code old new (inr cut) = cut_kind code cut.0
+kind_of : (status : ℕ) (bytes : List ℕ) (code : ℕ) (old new : Option (List ℕ)) → ComesOfText status → Delivers code status bytes old new → ComesOfText code
+kind_of status bytes code old new kind (inl whole) = subst ComesOfText (sym whole.0) kind
+kind_of status bytes code old new kind (inr cut) = cut_kind code cut.0
   where
     cut_kind : (code : ℕ) → (code ≡ 71) ⊎ (code ≡ 74) → ComesOfText code
     cut_kind code (inl e) = subst ComesOfText (sym e) refl
     cut_kind code (inr e) = subst ComesOfText (sym e) refl
+
+pub delivered-kind : (settings : Settings) (verdict : Verdict) (code : ℕ) (old new : Option (List ℕ)) → HasOutcome (λ status bytes. Delivers code status bytes old new) settings verdict → ComesOfText code
+delivered-kind settings (Accepted theory width) code old new runs =
+    let endings = map ending_of runs.ends in
+    kind_of (run_status endings) (texts_from (length_text theory) 1 runs.ends) code old new
+    (run_kind ComesOfText (list_any (λ (e : Ending). nat_lt 0 e.traces) endings) (list_any (λ (e : Ending). is_unfinished e.how) endings) refl refl refl) runs.delivered
+delivered-kind settings (Refused fault) code old new delivered = kind_of 65 (fault_line fault) code old new refl delivered
+delivered-kind settings (Unbuilt place) code old new delivered = kind_of 65 (unbuilt_line place) code old new refl delivered
+delivered-kind settings (Faulty cause) code old new delivered = kind_of 65 (cause_line cause) code old new refl delivered
+delivered-kind settings (Leaving place) code old new delivered = kind_of 65 (range_line place) code old new refl delivered
+delivered-kind settings Large code old new delivered = kind_of 69 large_line code old new refl delivered
 
 pub program-kind : (settings : Settings) (texts : List (List ℕ)) (program : Program) (code : ℕ) (old new : Option (List ℕ)) → IsReadable program → total_bytes texts ≤ largest_text → IsProgram texts program → DeliversRead (λ status bytes. Delivers code status bytes old new) settings program → ComesOfText code
 program-kind settings texts program code old new read small reads delivers =
@@ -213,7 +242,7 @@ program-kind settings texts program code old new read small reads delivers =
     delivered-kind settings has.0 code old new has.2
 
 pub fault-kind : (settings : Settings) (fault : ReadFault) (code : ℕ) (old new : Option (List ℕ)) → DeliversFault fault code old new → ComesOfText code
-fault-kind settings faults.Memory code old new delivered = delivered-kind settings Large code old new (memory_cut settings Large code old new delivered.0 delivered.1)
+fault-kind settings faults.Memory code old new delivered = delivered-kind settings Large code old new (memory-delivers settings Large code old new delivered.0 delivered.1)
 fault-kind settings (faults.BadByte place) code old new delivered = delivered-kind settings (Refused (faults.BadByte place)) code old new delivered
 fault-kind settings (faults.NumberRange place) code old new delivered = delivered-kind settings (Refused (faults.NumberRange place)) code old new delivered
 fault-kind settings (faults.TooDeep place) code old new delivered = delivered-kind settings (Refused (faults.TooDeep place)) code old new delivered
@@ -225,20 +254,26 @@ kind-not_read code kind e = false≢true (subst ComesOfText e kind)
 pub kind-not_usage : (code : ℕ) → ComesOfText code → code ≡ 64 → ⊥
 kind-not_usage code kind e = false≢true (subst ComesOfText e kind)
 
--- accepted texts are answered by their status, where no write failed and there was memory
-pub accepted-complete : (settings : Settings) (theory : ProgramTheory) (code : ℕ) (old new : Option (List ℕ)) (before now : ℕ) → Delivers code (status_of settings (Accepted theory)) (output_of settings (Accepted theory)) old new → (code ≡ 74 → Rose before now) → Stands before now → IsTrue (is_among (10 ∷ 20 ∷ 71 ∷ []) code)
-accepted-complete settings theory code old new before now (inl whole) rose stands =
-    subst (λ (n : ℕ). IsTrue (is_among (10 ∷ 20 ∷ 71 ∷ []) n)) (sym whole.0)
-    (run_kind (λ (n : ℕ). IsTrue (is_among (10 ∷ 20 ∷ 71 ∷ []) n)) (list_any (λ n. nat_lt 0 (count_of theory n)) (lengths_of settings (count_of theory))) refl refl)
-accepted-complete settings theory code old new before now (inr cut) rose stands = elim cut.0 [
-  | inl e ↦ subst (λ (n : ℕ). IsTrue (is_among (10 ∷ 20 ∷ 71 ∷ []) n)) (sym e) refl
-  | inr e ↦ absurd (stands-not-rose before now stands (rose e))
+-- accepted texts are answered by a run, whose lengths are whole where the budget is ample, where no write failed and there was memory
+pub accepted-complete : (settings : Settings) (theory : ProgramTheory) (width code : ℕ) (old new : Option (List ℕ)) (before now : ℕ) → HasOutcome (λ status bytes. Delivers code status bytes old new) settings (Accepted theory width) → (code ≡ 74 → Rose before now) → Stands before now → (code ≡ 71) ⊎ Completes settings theory width code old new
+accepted-complete settings theory width code old new before now runs rose stands = elim runs.delivered [
+  | inl whole ↦ inr (record {
+    ends = runs.ends;
+    is = runs.is;
+    status_is = whole.0;
+    printed = whole.1;
+    whole = λ ample. ample-whole settings theory width (length runs.ends) 1 runs.ends (omega arith) ample runs.is.are;
+  })
+  | inr cut ↦ elim cut.0 [
+    | inl e ↦ inl e
+    | inr e ↦ absurd (stands-not-rose before now stands (rose e))
+  ]
 ]
 
 -- ---- some verdict
 
 unit_program : (settings : Settings) (program : Program) → DeliversProgram (λ status bytes. Unit {0}) settings program
-unit_program settings program = record { accepted = λ _ _ _ _ _. tt; leaving = λ _ _ _. tt; large = λ _ _ _ _ _. tt }
+unit_program settings program = record { accepted = λ _ _ theory _ width _ _. some_run (λ status bytes. Unit {0}) settings theory width (λ _ _. tt); leaving = λ _ _ _. tt; large = λ _ _ _ _ _. tt }
 
 unit_read : (settings : Settings) (program : Program) → DeliversRead (λ status bytes. Unit {0}) settings program
 unit_read settings program = record { unbuilt = λ _ _. tt; unshown = λ _. record { checked = λ _ replaced _. unit_program settings replaced; faulty = λ _ _. tt } }
@@ -258,15 +293,16 @@ some_verdict settings texts = elim (cases_lt largest_text (total_bytes texts)) [
 -- nothing was printed, for want of memory
 pub cut_program : (code : ℕ) (old new : Option (List ℕ)) (settings : Settings) (program : Program) → code ≡ 71 → new ≡ old → DeliversProgram (λ status bytes. Delivers code status bytes old new) settings program
 cut_program code old new settings program is same = record {
-  accepted = λ _ live theory _ _. inr (inl is, front-of-nothing old new _ same);
+  accepted = λ _ live theory _ width _ _. some_run (λ status bytes. Delivers code status bytes old new) settings theory width (λ status bytes. inr (inl is, front-of-nothing old new bytes same));
   leaving = λ _ place _. inr (inl is, front-of-nothing old new _ same);
   large = λ _ live theory _ _. inr (inl is, front-of-nothing old new _ same);
 }
 
 -- a program with a template is answered by its run
-pub template-delivers : (D : ℕ → List ℕ → Type 0) (settings : Settings) (program : Program) (template : Ground) → HasFewNots program → IsGround template → IsInstantiated program (max settings.imax 1) template → D (run_status settings (template_count template)) (template_run settings template) → DeliversProgram D settings program
+pub template-delivers : (D : ℕ → List ℕ → Type 0) (settings : Settings) (program : Program) (template : Ground) → HasFewNots program → IsGround template → IsInstantiated program (max settings.imax 1) template → RunsTemplate settings template D → DeliversProgram D settings program
 template-delivers D settings program template nots ground made runs = record {
-  accepted = λ none live theory is few. same_run D settings template theory made.is.show ground (meant program (max settings.imax 1) template live theory nots ground made is) runs;
+  accepted = λ none live theory is width wide few.
+      same_run D settings template theory width made.is.show ground (meant program (max settings.imax 1) template live theory nots ground made is) (same_width program (max settings.imax 1) template live theory nots ground made is ∙ sym wide) runs;
   leaving = λ few place first. absurd (none_first program.statements program.symbols place made.ranges first);
   large = λ ranges live theory is many.
       let width = same_width program (max settings.imax 1) template live theory nots ground made is in
@@ -279,7 +315,7 @@ template-delivers D settings program template nots ground made runs = record {
 -- one with a statement that leaves the range is answered by that
 pub range-delivers : (D : ℕ → List ℕ → Type 0) (settings : Settings) (program : Program) (greatest : ℕ) (place : Place) → IsGroundFault program greatest (grounding.Range place) → D 65 (range_line place) → DeliversProgram D settings program
 range-delivers D settings program greatest place fault delivered = record {
-  accepted = λ none live theory is few. absurd (none_first program.statements program.symbols place none fault.1);
+  accepted = λ none live theory is width wide few. absurd (none_first program.statements program.symbols place none fault.1);
   leaving = λ few other first. subst (λ (p : Place). D 65 (range_line p)) (first-one program.statements program.symbols place other fault.1 first) delivered;
   large = λ ranges live theory is many. absurd (elim ranges [
     | inl more ↦ fault.0 more
@@ -290,7 +326,7 @@ range-delivers D settings program greatest place fault delivered = record {
 -- and one with too many places by that
 pub large-delivers : (D : ℕ → List ℕ → Type 0) (settings : Settings) (program : Program) → IsGroundFault program (max settings.imax 1) grounding.Large → D 69 large_line → DeliversProgram D settings program
 large-delivers D settings program fault delivered = record {
-  accepted = λ none live theory is few. absurd (not_both (places_in settings (width_of program live theory)) few (fault.1 live theory is));
+  accepted = λ none live theory is width wide few. absurd (not_both (places_in settings (width_of program live theory)) (subst (λ (w : ℕ). places_in settings w ≤ most_places) wide few) (fault.1 live theory is));
   leaving = λ few place first. absurd (elim fault.0 [
     | inl more ↦ few more
     | inr none ↦ none_first program.statements program.symbols place none first

@@ -9,6 +9,7 @@ use Rattle.text_answer.specs.declared.status.Status.TheVariants as statuses
 abbrev pub code_of : Status → ℕ
 code_of statuses.Models = 10
 code_of statuses.NoModel = 20
+code_of statuses.Unfinished = 30
 code_of statuses.Usage = 64
 code_of statuses.Refused = 65
 code_of statuses.Read = 66

@@ -16,7 +16,7 @@ use Rattle.program_theory.specs.Theory.{IsTheoryOf, width_of}
 use Rattle.fact_instantiate.specs.Instantiated.{most_places}
 use Rattle.text_answer.specs.Delivery.{Delivers}
 use Rattle.text_answer.specs.Shown.{first_shown}
-use Rattle.text_answer.specs.Verdict.{Accepted, line_at, named, cause_line, unbuilt_line, range_line, large_line, places_in, status_of, output_of}
+use Rattle.text_answer.specs.Verdict.{line_at, named, cause_line, unbuilt_line, range_line, large_line, places_in, RunsTheory}
 
 -- a fault of the reader is delivered, and for want of memory nothing is printed
 abbrev pub DeliversFault : ReadFault → ℕ → Option (List ℕ) → Option (List ℕ) → Type 0
@@ -33,7 +33,7 @@ DeliversCause (causes.Const place name) result old new = Delivers result 65 (cau
 
 -- what is delivered for a program without a cause: its theory's run, its first statement that leaves the range, or its size
 pub record DeliversProgram (D : ℕ → List ℕ → Type 0) (settings : Settings) (program : Program) : Type 0 where
-  pub accepted : NoneLeavesRange program.statements program.symbols → (live : List (List (List Value))) (theory : ProgramTheory) → IsTheoryOf program live theory → places_in settings (width_of program live theory) ≤ most_places → D (status_of settings (Accepted theory)) (output_of settings (Accepted theory))
+  pub accepted : NoneLeavesRange program.statements program.symbols → (live : List (List (List Value))) (theory : ProgramTheory) → IsTheoryOf program live theory → (width : ℕ) → width ≡ width_of program live theory → places_in settings width ≤ most_places → RunsTheory D settings theory width
   pub leaving : (HaveMoreRows program.statements most_places → ⊥) → (place : Place) → IsFirstLeaving program.statements program.symbols place → D 65 (range_line place)
   pub large : HaveMoreRows program.statements most_places ⊎ NoneLeavesRange program.statements program.symbols → (live : List (List (List Value))) (theory : ProgramTheory) → IsTheoryOf program live theory → most_places < places_in settings (width_of program live theory) → D 69 large_line
 

@@ -1,14 +1,13 @@
 -- What texts are: accepted as a program, or refused; and what is answered for them.
-use Rattle.std.specs.Prelude.{◌≡◌, ℕ, ◌+◌, ◌*◌, ◌≤◌, ◌<◌, ◌==◌, ◌⊎◌, Bool, List, [], ◌∷◌, ◌++◌, Option, Some, None, length, max, codes, decimal, IsTrue}
-use Rattle.std.specs.List.{list_any, flat_map}
+use Rattle.std.specs.Prelude.{◌≡◌, ℕ, ◌+◌, ◌*◌, ◌^◌, ◌≤◌, ◌<◌, ◌==◌, ◌⊎◌, Bool, List, [], ◌∷◌, ◌++◌, Option, Some, None, length, map, max, codes, decimal, IfSome, IsTrue}
+use Rattle.std.specs.List.{list_any}
 use Rattle.std.specs.Option.{option_map_or}
 use Rattle.tel_base.specs.declared.places.Place.{Place}
 use Rattle.tel_base.specs.Bytes.{Appends}
 use Rattle.tel_term.specs.declared.terms.Value.{Value}
 use Rattle.tel_rule.specs.declared.statements.Program.{Program}
-use Rattle.tel_semantics.specs.declared.ends.How.TheVariants.{Complete}
 use Rattle.tel_settings.specs.declared.fields.Settings.{Settings}
-use Rattle.tel_settings.specs.Run.{lengths_of, run_status}
+use Rattle.tel_settings.specs.Run.{run_status}
 use Rattle.part_syntax.specs.declared.fault.ReadFault.{ReadFault}
 use Rattle.part_syntax.specs.declared.fault.ReadFault.TheVariants as faults
 use Rattle.part_syntax.specs.Programs.{IsProgram, IsFirstFault, total_bytes}
@@ -23,16 +22,18 @@ use Rattle.theory_lists.specs.Lists.{equilibria}
 use Rattle.theory_lists.specs.Print.{print_theory}
 use Rattle.program_theory.specs.Theory.{IsTheoryOf, width_of}
 use Rattle.fact_instantiate.specs.Instantiated.{most_places}
+use Rattle.tel_engine.specs.Ends.{End, whole_end, IsEnd}
+use Rattle.text_answer.specs.Runs.{ending_of, AreEnds, texts_from, IsRunOf, Runs}
 use Rattle.text_answer.specs.Shown.{first_shown}
 
 -- the most bytes that all texts together may have
 abbrev pub largest_text : ℕ
 largest_text = 1048576
 
--- Accepted, with the theory that they mean; refused for their first fault, for their first `#show`, for the first cause of a statement, for the first statement that leaves
+-- Accepted, with the theory that they mean and how many variables it has in a state; refused for their first fault, for their first `#show`, for the first cause of a statement, for the first statement that leaves
 -- the range of numbers, or for their size.
 pub data Verdict : Type 0 where
-  Accepted : ProgramTheory → Verdict
+  Accepted : ProgramTheory → ℕ → Verdict
   Refused : ReadFault → Verdict
   Unbuilt : Place → Verdict
   Faulty : CheckFault → Verdict
@@ -84,44 +85,61 @@ pub record SayLarge (settings : Settings) (texts : List (List ℕ)) : Type 0 whe
   pub is : IsTheoryOf program live theory
   pub many : most_places < places_in settings (width_of program live theory)
 
--- no statement leaves the range, and the program means this theory, whose states haven't too many places
-pub record SayTheory (settings : Settings) (texts : List (List ℕ)) (theory : ProgramTheory) : Type 0 where
+-- no statement leaves the range, and the program means this theory, whose states have so many places, and not too many
+pub record SayTheory (settings : Settings) (texts : List (List ℕ)) (theory : ProgramTheory) (width : ℕ) : Type 0 where
   pub program : Program
   pub checked : SayChecked texts program
   pub ranges : NoneLeavesRange program.statements program.symbols
   pub live : List (List (List Value))
   pub is : IsTheoryOf program live theory
-  pub few : places_in settings (width_of program live theory) ≤ most_places
+  pub wide : width ≡ width_of program live theory
+  pub few : places_in settings width ≤ most_places
 
 -- The size is looked at first, then the grammar, then `#show`, then the causes of statements, then the range of numbers, and then the places at the greatest length.
 abbrev pub IsVerdict : Settings → List (List ℕ) → Verdict → Type 0
-IsVerdict settings texts (Accepted theory) = (total_bytes texts ≤ largest_text) × SayTheory settings texts theory
+IsVerdict settings texts (Accepted theory width) = (total_bytes texts ≤ largest_text) × SayTheory settings texts theory width
 IsVerdict settings texts (Refused fault) = (total_bytes texts ≤ largest_text) × IsFirstFault texts fault
 IsVerdict settings texts (Unbuilt place) = (total_bytes texts ≤ largest_text) × SayUnbuilt texts place
 IsVerdict settings texts (Faulty cause) = (total_bytes texts ≤ largest_text) × SayFaulty texts cause
 IsVerdict settings texts (Leaving place) = (total_bytes texts ≤ largest_text) × SayLeaving texts place
 IsVerdict settings texts Large = (largest_text < total_bytes texts) ⊎ ((total_bytes texts ≤ largest_text) × SayLarge settings texts)
 
--- how many temporal equilibrium models of length n there are
-abbrev pub count_of : ProgramTheory → ℕ → ℕ
-count_of theory n = length (equilibria theory n)
+-- ---- the run of a theory
+
+-- as many clauses as there are over the variables of n + 1 states, of which each has so many
+unfoldable pub most_clauses : ℕ → ℕ → ℕ
+most_clauses width n = 3 ^ ((n + 1) * width)
+
+-- An end of length n: its temporal equilibrium models in their order, all of them or as many as are asked for; or a front of these, which a budget of conflicts
+-- cut that is smaller than the number of clauses.
+abbrev pub IsLengthEnd : Settings → ProgramTheory → ℕ → ℕ → End → Type 0
+IsLengthEnd settings theory width n end = IsEnd (equilibria theory n) settings.models settings.conflicts (most_clauses width n) end
 
 -- what is printed for length n
-abbrev pub printed_length : ProgramTheory → ℕ → List ℕ
-printed_length theory n = print_theory theory n (equilibria theory n) Complete
+abbrev pub length_text : ProgramTheory → ℕ → End → List ℕ
+length_text theory n end = print_theory theory n end.traces end.how
 
--- what a run prints: its lengths in order, and nothing else
-abbrev pub printed_run : Settings → ProgramTheory → List ℕ
-printed_run settings theory = flat_map (printed_length theory) (lengths_of settings (count_of theory))
+-- `D` holds of the status of some run and of what it prints
+abbrev pub RunsTheory : (ℕ → List ℕ → Type 0) → Settings → ProgramTheory → ℕ → Type 0
+RunsTheory D settings theory width = Runs (IsLengthEnd settings theory width) (length_text theory) settings D
 
--- 10 or 20 as the run tells, and 65 or 69 where the texts are refused
-abbrev pub status_of : Settings → Verdict → ℕ
-status_of settings (Accepted theory) = run_status settings (count_of theory)
-status_of settings (Refused fault) = 65
-status_of settings (Unbuilt place) = 65
-status_of settings (Faulty cause) = 65
-status_of settings (Leaving place) = 65
-status_of settings Large = 69
+-- there is no budget of conflicts, or it is no smaller than the number of clauses of each length up to the greatest
+abbrev pub IsAmple : Option ℕ → ℕ → ℕ → Type 0
+IsAmple conflicts width greatest = IfSome conflicts (λ budget. (n : ℕ) → n ≤ greatest → most_clauses width n ≤ budget)
+
+-- no budget cuts a length: all its traces are printed, or as many as are asked for
+abbrev pub IsWholeEnd : Settings → ProgramTheory → ℕ → End → Type 0
+IsWholeEnd settings theory n end = end ≡ whole_end (equilibria theory n) settings.models
+
+-- the status is that of a run, whose whole text was added; where the budget is ample for the lengths that were printed, it cut none
+pub record Completes (settings : Settings) (theory : ProgramTheory) (width status : ℕ) (old new : Option (List ℕ)) : Type 0 where
+  pub ends : List End
+  pub is : IsRunOf (IsLengthEnd settings theory width) settings ends
+  pub status_is : status ≡ run_status (map ending_of ends)
+  pub printed : Appends old new (texts_from (length_text theory) 1 ends)
+  pub whole : IsAmple settings.conflicts width (length ends) → AreEnds (IsWholeEnd settings theory) 1 ends
+
+-- ---- the lines of refusals
 
 abbrev pub usage_line : List ℕ
 usage_line = codes "error: usage\n"
@@ -172,27 +190,29 @@ range_line place = line_at (codes "Range") place
 abbrev pub read_line : ℕ → List ℕ
 read_line place = codes "error: read " ++ decimal (place + 1) ++ codes "\n"
 
--- what is printed
-abbrev pub output_of : Settings → Verdict → List ℕ
-output_of settings (Accepted theory) = printed_run settings theory
-output_of settings (Refused fault) = fault_line fault
-output_of settings (Unbuilt place) = unbuilt_line place
-output_of settings (Faulty cause) = cause_line cause
-output_of settings (Leaving place) = range_line place
-output_of settings Large = large_line
+-- ---- what is answered
+
+-- `D` holds of the status of texts with this verdict and of what is printed for them: those of a run, or 65 or 69 and the line of the refusal
+abbrev pub HasOutcome : (ℕ → List ℕ → Type 0) → Settings → Verdict → Type 0
+HasOutcome D settings (Accepted theory width) = RunsTheory D settings theory width
+HasOutcome D settings (Refused fault) = D 65 (fault_line fault)
+HasOutcome D settings (Unbuilt place) = D 65 (unbuilt_line place)
+HasOutcome D settings (Faulty cause) = D 65 (cause_line cause)
+HasOutcome D settings (Leaving place) = D 65 (range_line place)
+HasOutcome D settings Large = D 69 large_line
 
 abbrev pub is_among : List ℕ → ℕ → Bool
 is_among statuses status = list_any (λ other. other == status) statuses
 
 -- a status that tells of the texts
 abbrev pub TellsOfText : ℕ → Type 0
-TellsOfText status = IsTrue (is_among (10 ∷ 20 ∷ 65 ∷ 69 ∷ []) status)
+TellsOfText status = IsTrue (is_among (10 ∷ 20 ∷ 30 ∷ 65 ∷ 69 ∷ []) status)
 
 -- a status that comes once the texts are read
 abbrev pub ComesOfText : ℕ → Type 0
-ComesOfText status = IsTrue (is_among (10 ∷ 20 ∷ 65 ∷ 69 ∷ 71 ∷ 74 ∷ []) status)
+ComesOfText status = IsTrue (is_among (10 ∷ 20 ∷ 30 ∷ 65 ∷ 69 ∷ 71 ∷ 74 ∷ []) status)
 
 -- some verdict of the texts has this status, and its whole output was added
 abbrev pub Answers : Settings → List (List ℕ) → ℕ → Option (List ℕ) → Option (List ℕ) → Type 0
 Answers settings texts status old new =
-    (verdict : Verdict) × IsVerdict settings texts verdict × (status ≡ status_of settings verdict) × Appends old new (output_of settings verdict)
+    (verdict : Verdict) × IsVerdict settings texts verdict × HasOutcome (λ code bytes. (status ≡ code) × Appends old new bytes) settings verdict

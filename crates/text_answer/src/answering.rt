@@ -1,15 +1,14 @@
 //! The answer to texts: their verdict, and what is printed for it.
-ghost use Rattle.std.specs.Prelude.{◌≡◌, ℕ, ◌<◌, ◌≤◌, ◌^◌, ◌*◌, List, max, Option, length, IsTrue, IfOk, IfErr, OnOk, Some, None, if◌then◌else◌};
+ghost use Rattle.std.specs.Prelude.{◌≡◌, ℕ, ◌<◌, ◌≤◌, ◌^◌, ◌*◌, List, max, Option, length, IsTrue, IfOk, IfErr, OnOk, Some, None};
 ghost use Rattle.tel_base.specs.declared.places.Place.{Place};
 ghost use Rattle.tel_rule.specs.Ground.{IsGround};
-ghost use Rattle.tel_settings.specs.Run.{run_status};
 ghost use Rattle.part_syntax.specs.Programs.{total_bytes};
 ghost use Rattle.program_theory.specs.Ready.{IsReadable, IsReady};
 ghost use Rattle.fact_instantiate.specs.Instantiated.{most_places, template_width, IsInstantiated, IsGroundFault};
 ghost use Rattle.text_answer.specs.Delivery.{code_of, Delivers, TellsFaults};
-ghost use Rattle.text_answer.specs.Running.{template_count, template_run};
+ghost use Rattle.text_answer.specs.Running.{RunsTemplate};
 ghost use Rattle.text_answer.specs.Shown.{is_show, first_shown};
-ghost use Rattle.text_answer.specs.Verdict.{largest_text, Verdict, IsVerdict, places_in, status_of, output_of, TellsOfText, ComesOfText, Answers};
+ghost use Rattle.text_answer.specs.Verdict.{largest_text, Verdict, IsVerdict, places_in, HasOutcome, TellsOfText, ComesOfText, Answers};
 ghost use Rattle.text_answer.specs.Refusals.{DeliversFault, DeliversCause, DeliversProgram, DeliversUnshown, DeliversRead};
 
 use crate::refusing::{refuse_at, refuse_large, refuse_named};
@@ -23,17 +22,6 @@ use tel_base::{Place, Sink, Text};
 use tel_rule::{Kind, Program, Statement, Template};
 use tel_settings::Settings;
 
-/// The status of a run of which some length has a trace, or none.
-fn status_after(found: bool) -> Status
-    ensures { code_of result ≡ (if found then 10 else 20) }
-{
-    if found {
-        Status::Models
-    } else {
-        Status::NoModel
-    }
-}
-
 /// Prints a run, and answers its status.
 fn answer_template<O: Sink>(
     alloc: Global,
@@ -42,11 +30,11 @@ fn answer_template<O: Sink>(
     template: Template,
 ) -> Status
     requires { places_in settings.now (template_width template) ≤ most_places }
-    ensures delivers { Delivers (code_of result) (run_status settings.now (template_count template)) (template_run settings.now template) (O.bytes out.old) (O.bytes out.new) }
+    ensures delivers { RunsTemplate settings.now template (λ status bytes. Delivers (code_of result) status bytes (O.bytes out.old) (O.bytes out.new)) }
     ensures faults { TellsFaults (code_of result) (O.faults out.old) (O.faults out.new) }
 {
     match print_run(alloc, out, settings, template) {
-        Ok(found) => status_after(found),
+        Ok(status) => status,
         Err(RunFault::Write) => Status::Write,
         Err(RunFault::Memory) => Status::Memory,
     }
@@ -182,7 +170,7 @@ pub fn answer<O: Sink>(alloc: Global, out: &mut O, settings: &Settings, texts: &
     requires small { total_bytes texts.now ≤ largest_text }
     requires few { length texts.now ≤ 16 }
     ensures delivers { (verdict : Verdict) → IsVerdict settings.now texts.now verdict
-        → Delivers (code_of result) (status_of settings.now verdict) (output_of settings.now verdict) (O.bytes out.old) (O.bytes out.new) }
+        → HasOutcome (λ status bytes. Delivers (code_of result) status bytes (O.bytes out.old) (O.bytes out.new)) settings.now verdict }
     ensures answers { TellsOfText (code_of result) → Answers settings.now texts.now (code_of result) (O.bytes out.old) (O.bytes out.new) }
     ensures kind { ComesOfText (code_of result) }
     ensures faults { TellsFaults (code_of result) (O.faults out.old) (O.faults out.new) }

@@ -1,16 +1,17 @@
 //! A run: the lengths that are printed, in order.
-ghost use Rattle.std.specs.Prelude.{◌≡◌, ℕ, ◌+◌, ◌<◌, ◌≤◌, ◌||◌, List, min, nat_lt, IfOk, OnOk};
-ghost use Rattle.std.specs.List.{flat_map, list_any};
-ghost use Rattle.tel_semantics.specs.Print.{greatest_count};
-ghost use Rattle.tel_settings.specs.Run.{lengths_of};
+ghost use Rattle.std.specs.Prelude.{◌≡◌, ℕ, ◌+◌, ◌<◌, ◌≤◌, ◌||◌, nat_lt, if◌then◌else◌, OnOk};
+ghost use Rattle.tel_settings.specs.Run.{is_unfinished};
 ghost use Rattle.fact_instantiate.specs.Instantiated.{most_places, template_width};
-ghost use Rattle.text_answer.specs.Running.{Runs, template_count, template_length, template_run};
+ghost use Rattle.text_answer.specs.Delivery.{code_of};
+ghost use Rattle.text_answer.specs.Running.{PrintsLength, PrintsRun};
 ghost use Rattle.text_answer.specs.Verdict.{places_in};
 
+use crate::status::Status;
 use std::alloc::Global;
 use tel_base::{NullSink, Sink};
-use tel_engine::{Engine, EngineFault, Stage};
+use tel_engine::{Engine, EngineFault, LengthEnd, Stage};
 use tel_rule::Template;
+use tel_semantics::How;
 use tel_settings::{Settings, stops};
 use unfounded_sets::LeastScan;
 
@@ -23,77 +24,103 @@ pub enum RunFault {
     Memory,
 }
 
-/// Goes on to the next length and prints it, and says how many traces it has, at most
-/// 18446744073709551615.
-fn print_next<O: Sink>(out: &mut O, engine: &mut Engine<LeastScan>) -> Result<u64, RunFault>
+/// Goes on to the next length and prints it, and says how it ended.
+fn print_next<O: Sink>(
+    out: &mut O,
+    settings: &Settings,
+    engine: &mut Engine<LeastScan>,
+) -> Result<LengthEnd, RunFault>
     requires within { engine.old.length < engine.old.greatest }
     requires listed { engine.old.stage ≡ Stage.Listed }
     ensures template { engine.new.template ≡ engine.old.template }
     ensures greatest { engine.new.greatest ≡ engine.old.greatest }
     ensures length { OnOk result (engine.new.length ≡ engine.old.length + 1) }
     ensures stage { OnOk result (engine.new.stage ≡ Stage.Listed) }
-    ensures count { IfOk result (λ count. count ≡ min (template_count engine.old.template (engine.old.length + 1)) greatest_count) }
-    ensures prints { Runs result (template_length engine.old.template (engine.old.length + 1)) (O.bytes out.old) (O.bytes out.new) (O.faults out.old) (O.faults out.new) }
+    ensures prints { PrintsLength settings.now engine.old.template (engine.old.length + 1) result (O.bytes out.old) (O.bytes out.new) (O.faults out.old) (O.faults out.new) }
 {
     match engine.extend() {
         Ok(()) => {}
         Err(_) => return Err(RunFault::Memory),
     }
-    match engine.list_into(out, &mut NullSink, 0, None) {
-        Ok(end) => Ok(end.traces),
+    match engine.list_into(out, &mut NullSink, settings.models, settings.conflicts) {
+        Ok(end) => Ok(end),
         Err(EngineFault::Write) => Err(RunFault::Write),
         Err(EngineFault::Memory) => Err(RunFault::Memory),
     }
 }
 
-/// Whether a trace was found before, or one of these is.
-fn has_trace(found: bool, traces: usize) -> bool
-    ensures { result ≡ (found || nat_lt 0 traces) }
+/// Whether a trace was printed before, or one was at this length.
+fn has_trace(found: bool, end: LengthEnd) -> bool
+    ensures { result ≡ (found || nat_lt 0 end.traces) }
 {
-    found || traces > 0
+    found || end.traces > 0
 }
 
-/// Prints the lengths of a run from an engine that has no length yet, and says whether any has a trace.
+/// Whether the budget cut a length before, or this one.
+fn has_cut(cut: bool, end: LengthEnd) -> bool
+    ensures { result ≡ (cut || is_unfinished end.how) }
+{
+    cut || match end.how {
+        How::Budget => true,
+        How::Complete | How::Limit => false,
+    }
+}
+
+/// The status of a run.
+fn status_after(found: bool, cut: bool) -> Status
+    ensures { code_of result ≡ (if found then 10 else (if cut then 30 else 20)) }
+{
+    if found {
+        Status::Models
+    } else if cut {
+        Status::Unfinished
+    } else {
+        Status::NoModel
+    }
+}
+
+/// Prints the lengths of a run from an engine that has no length yet, and answers its status.
 fn print_lengths<O: Sink>(
     out: &mut O,
     settings: &Settings,
     engine: &mut Engine<LeastScan>,
-) -> Result<bool, RunFault>
+) -> Result<Status, RunFault>
     requires begun { engine.old.length ≡ 0 }
     requires listed { engine.old.stage ≡ Stage.Listed }
     requires within { settings.now.imax ≤ engine.old.greatest }
-    ensures found { IfOk result (λ found. found ≡ list_any (λ n. nat_lt 0 (template_count engine.old.template n)) (lengths_of settings.now (template_count engine.old.template))) }
-    ensures prints { Runs result (template_run settings.now engine.old.template) (O.bytes out.old) (O.bytes out.new) (O.faults out.old) (O.faults out.new) }
+    ensures prints { PrintsRun settings.now engine.old.template result (O.bytes out.old) (O.bytes out.new) (O.faults out.old) (O.faults out.new) }
 {
     let imax = settings.imax;
     let mut found = false;
+    let mut cut = false;
     let mut n = 0;
     'running: while n < imax {
         let next = n + 1;
-        let traces = match print_next(out, engine) {
-            Ok(traces) => traces as usize,
+        let end = match print_next(out, settings, engine) {
+            Ok(end) => end,
             Err(fault) => return Err(fault),
         };
-        let more = has_trace(found, traces);
-        found = more;
+        let some = has_trace(found, end);
+        let short = has_cut(cut, end);
+        found = some;
+        cut = short;
         n = next;
-        if stops(settings, next, traces) {
-            return Ok(found);
+        if stops(settings, next, end.how, end.traces) {
+            return Ok(status_after(found, cut));
         }
     }
-    Ok(found)
+    Ok(status_after(found, cut))
 }
 
-/// Prints the lengths of a run, and says whether any has a trace.
+/// Prints the lengths of a run, and answers its status.
 pub fn print_run<O: Sink>(
     alloc: Global,
     out: &mut O,
     settings: &Settings,
     template: Template,
-) -> Result<bool, RunFault>
+) -> Result<Status, RunFault>
     requires { places_in settings.now (template_width template) ≤ most_places }
-    ensures found { IfOk result (λ found. found ≡ list_any (λ n. nat_lt 0 (template_count template n)) (lengths_of settings.now (template_count template))) }
-    ensures prints { Runs result (template_run settings.now template) (O.bytes out.old) (O.bytes out.new) (O.faults out.old) (O.faults out.new) }
+    ensures prints { PrintsRun settings.now template result (O.bytes out.old) (O.bytes out.new) (O.faults out.old) (O.faults out.new) }
 {
     let founded = LeastScan::new(alloc);
     let mut engine = Engine::new(alloc, template, settings.imax.max(1), founded);

@@ -8,6 +8,8 @@ pub enum Status {
     Models = 10,
     /// There was none to print.
     NoModel = 20,
+    /// None was printed, and some length was given up.
+    Unfinished = 30,
     /// The words are no line of the command.
     Usage = 64,
     /// The text is no program.

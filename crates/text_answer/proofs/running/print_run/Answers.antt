@@ -1,12 +1,11 @@
-use Rattle.std.proofs.Common.{◌≡◌, ℕ, nat_lt, IfOk, subst}
-use Rattle.std.specs.List.{list_any}
+use Rattle.std.proofs.Common.{ℕ, subst}
 use Rattle.tel_rule.specs.Ground.{Ground}
-use Rattle.tel_settings.specs.Run.{lengths_of}
-use Rattle.text_answer.specs.Running.{template_count}
+use Rattle.text_answer.specs.Running.{PrintsRun}
 use Rattle.text_answer.proofs.running.print_run.Goals as goal
 
-pub returns-clause-found : goal.returns-clause-found
-returns-clause-found g c =
-    let settings = c.args.settings.now in
-    subst (λ (T : Ground). IfOk c.print_lengths.result (λ found. found ≡ list_any (λ (n : ℕ). nat_lt 0 (template_count T n)) (lengths_of settings (template_count T))))
-    c.new-engine.ensures.template c.print_lengths.ensures.found
+pub returns : goal.returns
+returns g c =
+    record {
+      prints = subst (λ (template : Ground). PrintsRun c.args.settings.now template c.print_lengths.result (g.O.Sink.bytes c.args.out.now) (g.O.Sink.bytes c.print_lengths.new.out) (g.O.Sink.faults c.args.out.now) (g.O.Sink.faults c.print_lengths.new.out))
+          c.new-engine.ensures.template c.print_lengths.ensures.prints;
+    }
