@@ -1,5 +1,5 @@
 //! The lines of the walker, one behind another.
-ghost use Rattle.std.specs.Prelude.{◌≡◌, ◌++◌, codes, decimal, IfOk, OnOk};
+ghost use Rattle.std.specs.Prelude.{◌≡◌, ◌≤◌, ◌++◌, codes, decimal, length, IfOk, OnOk};
 ghost use Rattle.walker_text.specs.Walker.{walker_text};
 
 use itoa::Buffer;
@@ -65,7 +65,8 @@ fn put_walker(text: &mut Vec<u8>, cells: u32) -> Result<(), Memory>
 ///
 /// `Memory` for want of memory, and for nothing else.
 pub fn generate(alloc: Global, cells: u32) -> Result<Text, Memory>
-    ensures { IfOk result (λ text. text ≡ walker_text cells) }
+    ensures text { IfOk result (λ text. text ≡ walker_text cells) }
+    ensures small { IfOk result (λ text. length text ≤ 349) }
 {
     let mut text = Vec::with_capacity(alloc, ROOM)?;
     put_walker(&mut text, cells)?;
