@@ -8,14 +8,10 @@ use Rattle.std.proofs.lemmas.List.Sums.{sum_by-append, sum_by-cons, sum_by-take-
 use Rattle.std.proofs.lemmas.Slice.Eq.{bytes_eq-Decides}
 use Rattle.tel_base.specs.Counts.{Rose}
 use Rattle.tel_rule.specs.Rising.{has_name}
-use Rattle.tel_settings.specs.declared.fields.Input.{Input}
-use Rattle.tel_settings.specs.declared.fields.Input.TheVariants as inputs
-use Rattle.tel_settings.specs.Command.{HasFiles}
 use Rattle.part_syntax.specs.Programs.{total_bytes}
 use Rattle.text_answer.specs.Verdict.{largest_text}
 use Rattle.telingo_cli.specs.Reading.{IsTold, HasMore}
 use Rattle.telingo_cli.specs.Texts.{AreTold, HaveLargeTexts, FailsAt, first_place}
-use Rattle.telingo_cli.specs.Top.{files_in}
 
 pub told-append : (told : List ℕ → Option (List ℕ)) (a b xs ys : List (List ℕ)) → AreTold told a xs → AreTold told b ys → AreTold told (a ++ b) (xs ++ ys)
 told-append told [] b xs ys first second = subst (λ (zs : List (List ℕ)). AreTold told b (zs ++ ys)) (sym first) second
@@ -26,11 +22,6 @@ told-append told (name ∷ a) b xs ys first second =
 pub told-length : (told : List ℕ → Option (List ℕ)) (names texts : List (List ℕ)) → AreTold told names texts → length texts ≡ length names
 told-length told [] texts is = ap length is
 told-length told (name ∷ names) texts is = ap length is.2 ∙ omega (arith, told-length told names is.1 is.4)
-
--- the settings of a line name few files
-pub few_files : (input : Input) → HasFiles input → length (files_in input) ≤ 16
-few_files (inputs.Files files) has = has.1
-few_files (inputs.Number number) has = absurd has
 
 -- one name more
 pub told-more : (told : List ℕ → Option (List ℕ)) (names texts : List (List ℕ)) (place : ℕ) (name text : List ℕ) → place < length names → name ≡ get_or names place name → AreTold told (take place names) texts → IsTold (told name) text → AreTold told (take (place + 1) names) (texts ++ text ∷ [])

@@ -1,16 +1,18 @@
 //! The texts of the file words, read in order.
-ghost use Rattle.std.specs.Prelude.{◌≡◌, ℕ, ◌+◌, ◌^◌, ◌<◌, ◌≤◌, List, length, IfOk, IfErr, IfSome};
+ghost use Rattle.std.specs.Prelude.{◌≡◌, ℕ, ◌+◌, ◌^◌, ◌<◌, ◌≤◌, List, [], ◌∷◌, length, IfOk, IfErr, IfSome};
 ghost use Rattle.std.specs.List.{position};
 ghost use Rattle.std.specs.Str.{bytes_eq};
 ghost use Rattle.part_syntax.specs.Programs.{total_bytes};
 ghost use Rattle.text_answer.specs.Verdict.{largest_text};
+ghost use Rattle.walker_text.specs.Walker.{walker_text};
 ghost use Rattle.telingo_cli.specs.Texts.{AreTold, HaveLargeTexts, FailedAt, first_place};
 ghost use Rattle.telingo_cli.specs.Files.{KeepsCount};
 
 use crate::reading::{TextFault, piece_buffer, read_text};
 use std::alloc::Global;
-use tel_base::{Source, Text};
+use tel_base::{Memory, Source, Text};
 use tel_settings::Word;
+use walker_text::generate;
 
 /// Why the texts weren't read.
 #[derive(Clone, Copy, PartialEq, Eq)]
@@ -82,5 +84,16 @@ pub fn read_files<S: Source>(
             return Err(FilesFault::Memory);
         }
     }
+    Ok(read)
+}
+
+/// The generated text of this number, alone.
+pub fn walker_texts(alloc: Global, number: u32) -> Result<Vec<Text>, Memory>
+    ensures whole { IfOk result (λ read. read.items ≡ walker_text number ∷ []) }
+    ensures small { IfOk result (λ read. total_bytes read.items ≤ largest_text) }
+{
+    let text = generate(alloc, number)?;
+    let mut read = Vec::new(alloc);
+    read.push(text)?;
     Ok(read)
 }

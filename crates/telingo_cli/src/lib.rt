@@ -7,3 +7,4 @@ mod top;
 
 pub use text_answer::Status;
 pub use top::telingo;
+pub use walker_text::generate;
