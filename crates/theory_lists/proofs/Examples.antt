@@ -20,7 +20,7 @@ not_p_of_two = record { negative = true; name = codes "p"; args = terms.Name (co
 
 -- p(1) or not p(1), always
 abbrev choice : ProgramTheory
-choice = record { atoms = p_one ∷ []; demands = record { part = parts.Always; formula = Or (Atom p_one) (negation (Atom p_one)) } ∷ [] }
+choice = record { atoms = p_one ∷ []; demands = record { part = parts.Always; formula = Or (Atom p_one) (negation (Atom p_one)) } ∷ []; shown = λ atom. true }
 
 choice_one : equilibria choice 1 ≡ ([] ∷ []) ∷ ((0 ∷ []) ∷ []) ∷ []
 choice_one = refl
@@ -36,6 +36,7 @@ abbrev then_next : ProgramTheory
 then_next = record {
   atoms = p_one ∷ not_p_of_two ∷ [];
   demands = record { part = parts.Initial; formula = Arrow True (Atom p_one) } ∷ record { part = parts.Initial; formula = Arrow (Atom p_one) (Next (Atom not_p_of_two)) } ∷ [];
+  shown = λ atom. true;
 }
 
 next_one : equilibria then_next 1 ≡ []
@@ -47,6 +48,26 @@ next_two = refl
 next_printed : print_theory then_next 2 (((0 ∷ []) ∷ (1 ∷ []) ∷ []) ∷ []) Complete ≡ codes "length 2\ntrace\nstate 0: p(1)\nstate 1: -p(a,\"b\")\nend complete 1\n"
 unfolding digits
 next_printed = refl
+
+-- {a}. {b}. #show a/0.
+abbrev a : TermAtom
+a = record { negative = false; name = codes "a"; args = [] }
+
+abbrev b : TermAtom
+b = record { negative = false; name = codes "b"; args = [] }
+
+abbrev one_shown : ProgramTheory
+one_shown = record {
+  atoms = a ∷ b ∷ [];
+  demands = record { part = parts.Initial; formula = Or (Atom a) (negation (Atom a)) } ∷ record { part = parts.Initial; formula = Or (Atom b) (negation (Atom b)) } ∷ [];
+  shown = same_atom a;
+}
+
+-- all four are printed, with a alone
+one_printed : print_theory one_shown 1 (equilibria one_shown 1) Complete
+    ≡ codes "length 1\ntrace\nstate 0:\ntrace\nstate 0:\ntrace\nstate 0: a\ntrace\nstate 0: a\nend complete 4\n"
+unfolding digits
+one_printed = refl
 
 text_one : term_atom_text p_one ≡ codes "p(1)"
 unfolding digits

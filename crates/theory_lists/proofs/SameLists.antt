@@ -51,14 +51,14 @@ told_at atoms trace k place up below l =
 
 -- ---- the models
 
--- what a template means
-abbrev meant : Ground → ProgramTheory
-meant template = record { atoms = atoms_over template; demands = map (renamed_demand (numbered_atom template)) (theory template) }
+-- what a template means, whatever is shown
+abbrev meant : Ground → (TermAtom → Bool) → ProgramTheory
+meant template shown = record { atoms = atoms_over template; demands = map (renamed_demand (numbered_atom template)) (theory template); shown = shown }
 
-is_meant : (template : Ground) (said : ProgramTheory) → Means template said → said ≡ meant template
-is_meant template said means i = record { atoms = means.atoms i; demands = means.demands i }
+is_meant : (template : Ground) (said : ProgramTheory) → Means template said → said ≡ meant template said.shown
+is_meant template said means i = record { atoms = means.atoms i; demands = means.demands i; shown = said.shown }
 
-module _ (template : Ground) (grounded : IsGround template) (n : ℕ) where
+module _ (template : Ground) (shown : TermAtom → Bool) (grounded : IsGround template) (n : ℕ) where
   atoms_many : length (atoms_over template) ≡ length template.atoms
   atoms_many = length-map template.atoms (atom_over template.symbols)
 
@@ -66,29 +66,29 @@ module _ (template : Ground) (grounded : IsGround template) (n : ℕ) where
   told_as trace below k place l m =
       told_at (atoms_over template) trace k place (atoms-rise template grounded) below (subst (λ (count : ℕ). place < count) (sym atoms_many) m)
 
-  same_models : (H T : List (List ℕ)) → StaysBelow (length (atoms_over template)) H → StaysBelow (length (atoms_over template)) T → models (meant template) n H T ≡ is_model (theory template) n (test_of H) (test_of T)
+  same_models : (H T : List (List ℕ)) → StaysBelow (length (atoms_over template)) H → StaysBelow (length (atoms_over template)) T → models (meant template shown) n H T ≡ is_model (theory template) n (test_of H) (test_of T)
   same_models H T h t =
       models-renamed (numbered_atom template) (theory template) n (length template.atoms) (told (atoms_over template) H) (told (atoms_over template) T) (test_of H) (test_of T)
       (theory_below template grounded) (told_as H h) (told_as T t)
 
-  same_minimal : (T : List (List ℕ)) → StaysBelow (length (atoms_over template)) T → is_minimal (meant template) n T ≡ ground.is_minimal template n T
+  same_minimal : (T : List (List ℕ)) → StaysBelow (length (atoms_over template)) T → is_minimal (meant template shown) n T ≡ ground.is_minimal template n T
   same_minimal T t =
       all_agree _ _ (traces_below T) (λ H found.
       ap₂ (λ (b : Bool) (count : ℕ). not b || is_below n count (test_of T) (test_of H))
       (same_models H T (λ k place there. t k place (IsBelow-Under H T (Under-traces_below H T found) k place there)) t) atoms_many)
 
-  same_equilibrium : (T : List (List ℕ)) → In T (all_traces (length (atoms_over template)) n) → tem template n T ≡ is_equilibrium (meant template) n T
+  same_equilibrium : (T : List (List ℕ)) → In T (all_traces (length (atoms_over template)) n) → tem template n T ≡ is_equilibrium (meant template shown) n T
   same_equilibrium T found =
       let count = length (atoms_over template) in
       let t = stays_below count T (Under-full count n T (Under-traces_below T (full_trace count n) found)).1 in
       ap₂ (λ (b c : Bool). b && c) (sym (same_models T T t t)) (sym (same_minimal T t))
 
-  same_list : list_of template n ≡ equilibria (meant template) n
+  same_list : list_of template n ≡ equilibria (meant template shown) n
   same_list =
       ap (λ (traces : List (List (List ℕ))). if n == 0 then [] else traces)
       (ap (λ (count : ℕ). filter (tem template n) (all_traces count n)) (sym atoms_many)
-      ∙ filter_agrees (tem template n) (is_equilibrium (meant template) n) (all_traces (length (atoms_over template)) n) same_equilibrium)
+      ∙ filter_agrees (tem template n) (is_equilibrium (meant template shown) n) (all_traces (length (atoms_over template)) n) same_equilibrium)
 
 pub lists-same : ListsAreOfTheories
 lists-same template said n grounded means =
-    same_list template grounded n ∙ ap (λ (theory : ProgramTheory). equilibria theory n) (sym (is_meant template said means))
+    same_list template said.shown grounded n ∙ ap (λ (theory : ProgramTheory). equilibria theory n) (sym (is_meant template said means))

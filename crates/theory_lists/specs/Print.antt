@@ -1,5 +1,5 @@
 -- What is printed for a length of a theory over ground atoms, byte for byte: a header, the lines of each trace, and a closing line.
-use Rattle.std.specs.Prelude.{ℕ, ◌+◌, List, [], ◌∷◌, ◌++◌, length, decimal, codes}
+use Rattle.std.specs.Prelude.{ℕ, ◌+◌, List, [], ◌∷◌, ◌++◌, length, decimal, codes, if◌then◌else◌}
 use Rattle.std.specs.List.{flat_map}
 use Rattle.tel_term.specs.declared.terms.Term.{Term}
 use Rattle.tel_semantics.specs.declared.ends.How.{How}
@@ -20,11 +20,13 @@ terms_text (first ∷ more) = codes "(" ++ term_text first ++ flat_map next_term
 abbrev pub term_atom_text : TermAtom → List ℕ
 term_atom_text atom = sign_text atom.negative ++ atom.name ++ terms_text atom.args
 
--- a space and the atom at a place
+-- a space and the atom at a place, where it is shown; of one that isn't there is nothing
 abbrev pub place_text : ProgramTheory → ℕ → List ℕ
-place_text theory place = codes " " ++ term_atom_text (atom_at theory.atoms place)
+place_text theory place =
+    let atom = atom_at theory.atoms place in
+    if theory.shown atom then codes " " ++ term_atom_text atom else []
 
--- "state k:" and the atoms that are true there
+-- "state k:" and the shown atoms that are true there
 abbrev pub state_text : ProgramTheory → ℕ → List ℕ → List ℕ
 state_text theory k state = codes "state " ++ decimal k ++ codes ":" ++ flat_map (place_text theory) state ++ codes "\n"
 

@@ -1,6 +1,6 @@
 //! Laws of the definitions: functions that do nothing, whose contracts are proved facts.
 
-ghost use Rattle.theory_lists.specs.Laws.{AtomsAreOrdered, SameAtomsAreOne, AtomsOfTemplatesRise, ListsAreOfTheories, PrintsAreOfTheories};
+ghost use Rattle.theory_lists.specs.Laws.{AtomsAreOrdered, SameAtomsAreOne, AtomsOfTemplatesRise, ListsAreOfTheories, PrintsAreOfTheories, ListsPrintAsTheories};
 
 /// The order of atoms is total, atoms are the same exactly where they are one, and the atoms of a template
 /// strictly rise.
@@ -15,7 +15,8 @@ pub fn lists_of_theories()
     ensures { ListsAreOfTheories }
 {}
 
-/// A template that means a theory and shows all atoms prints traces as the theory does.
+/// A template that means a theory prints traces over its atoms as the theory does, and so its temporal equilibrium models.
 pub fn prints_of_theories()
-    ensures { PrintsAreOfTheories }
+    ensures traces { PrintsAreOfTheories }
+    ensures models { ListsPrintAsTheories }
 {}
