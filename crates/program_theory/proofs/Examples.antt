@@ -1,6 +1,6 @@
 -- Small programs with their theories and templates, worked out by hand.
-use Rattle.std.proofs.Common.{◌≡◌, ◌∙◌, ℕ, ◌+◌, pos, true, false, List, [], ◌∷◌, length, refl, sym, ap, subst, inl, arith, ⊎_elim}
-use Rattle.std.specs.Prelude.{◌==◌, codes, Ok, IsTrue}
+use Rattle.std.proofs.Common.{◌≡◌, ◌∙◌, ℕ, ◌+◌, pos, Bool, true, false, Option, List, [], ◌∷◌, length, refl, sym, ap, subst, inl, arith, ⊎_elim}
+use Rattle.std.specs.Prelude.{◌==◌, codes, Ok, Some, None, IsTrue}
 use Rattle.std.specs.List.{list_all, sum}
 use Rattle.std.proofs.lemmas.Bool.{and_parts, eqb-true}
 use Rattle.tel_base.specs.Members.{In}
@@ -32,7 +32,8 @@ use Rattle.tel_rule.specs.declared.nodes.NodeOp.TheVariants as ops
 use Rattle.tel_rule.specs.declared.nodes.Kid.TheVariants as kids
 use Rattle.tel_rule.specs.declared.ground.GroundHead.TheVariants as derived
 use Rattle.tel_rule.specs.declared.ground.BodyItem.TheVariants as looks
-use Rattle.tel_rule.specs.declared.ground.Show.TheVariants as shows
+use Rattle.tel_rule.specs.declared.ground.Show.TheVariants as showing
+use Rattle.tel_rule.specs.declared.statements.Signature.{Signature}
 use Rattle.tel_rule.specs.Ground.{Ground, IsGround}
 use Rattle.tel_semantics.specs.Formula as formulas
 use Rattle.tel_semantics.specs.Formula.{negation}
@@ -43,7 +44,7 @@ use Rattle.theory_lists.specs.Atoms.{TermAtom}
 use Rattle.theory_lists.specs.Theories.{ProgramTheory}
 use Rattle.theory_lists.specs.Lists.{equilibria}
 use Rattle.program_theory.specs.Instances.{AreInstances, operator_count}
-use Rattle.program_theory.specs.Theory.{IsTheoryOf, atom_under, instance_demands, demanded_atoms, width_of}
+use Rattle.program_theory.specs.Theory.{IsTheoryOf, atom_under, instance_demands, demanded_atoms, width_of, is_shown_by}
 use Rattle.program_theory.specs.Templates.{HasFewNots, IsTemplateOf}
 use Rattle.program_theory.proofs.Counted.{below_sum}
 use Rattle.program_theory.proofs.SomeTheory.{rising_atoms}
@@ -128,6 +129,7 @@ theory = record {
       ∷ record { part = parts.Always; formula = formulas.Arrow (formulas.And (formulas.Atom atom_p) formulas.True) (formulas.Atom not_q) }
       ∷ record { part = parts.Always; formula = negation (formulas.And (formulas.Atom atom_q) (formulas.Atom not_q)) }
       ∷ [];
+  shown = λ atom. true;
 }
 
 its_theory : IsTheoryOf program live theory
@@ -136,6 +138,7 @@ its_theory = record {
   rise = refl;
   atoms = (rising_atoms (demanded_atoms (instance_demands program live))).members;
   demands = refl;
+  shown = refl;
 }
 
 -- p, and with it -q, come at the second of two instants; of one instant there is no model
@@ -163,7 +166,7 @@ template = record {
       ∷ record { statement = 1; part = parts.Always; head = derived.Normal 1 false; body = record { positive = false; item = looks.Node 0 } ∷ [] }
       ∷ record { statement = 2; part = parts.Always; head = derived.Normal 2 false; body = record { positive = true; item = looks.Atom 0 } ∷ [] }
       ∷ [];
-  show = shows.All;
+  show = showing.All;
 }
 
 few_nots : HasFewNots program
@@ -180,8 +183,34 @@ its_template = record {
   atoms = (rising_atoms (demanded_atoms (instance_demands program live))).members;
   instances = refl;
   nodes = refl;
-  show = refl;
+  shown = λ number below. refl;
 }
+
+-- ---- what is shown
+
+-- {a}. {b}. and a `#show`, or none
+abbrev shows : Option Signature → List Statement
+shows shown = of_part parts.Always (kinds.Rule (heads.Choice (plain (codes "a"))) []) ∷ of_part parts.Always (kinds.Rule (heads.Choice (plain (codes "b"))) []) ∷ of_part parts.Always (kinds.Show shown) ∷ []
+
+abbrev without_arguments : Bool → List ℕ → Signature
+without_arguments negative name = record { negative = negative; name = name; arity = 0 }
+
+-- #show a/0. shows a alone, neither b nor -a
+a_shown : is_shown_by (shows (Some (without_arguments false (codes "a")))) (without_arguments false (codes "a")) ≡ true
+a_shown = refl
+
+b_hidden : is_shown_by (shows (Some (without_arguments false (codes "a")))) (without_arguments false (codes "b")) ≡ false
+b_hidden = refl
+
+other_sign : is_shown_by (shows (Some (without_arguments false (codes "a")))) (without_arguments true (codes "a")) ≡ false
+other_sign = refl
+
+-- `#show.` shows none, and without a `#show` all are shown
+none_shown : is_shown_by (shows None) (without_arguments false (codes "a")) ≡ false
+none_shown = refl
+
+all_shown : is_shown_by program.statements (without_arguments true q) ≡ true
+all_shown = refl
 
 -- ---- the operators of a formula
 

@@ -15,7 +15,7 @@ use Rattle.theory_lists.specs.Atoms.{TermAtom, same_atom, atom_at}
 use Rattle.theory_lists.specs.Renaming.{renamed_demand}
 use Rattle.theory_lists.specs.Theories.{ProgramTheory, Means, atoms_over, numbered_atom}
 use Rattle.theory_lists.proofs.AtomOrder.{atoms-one, atoms-rise}
-use Rattle.program_theory.specs.Theory.{IsTheoryOf, statement_demands, formula_atoms, demanded_atoms, pair_demands}
+use Rattle.program_theory.specs.Theory.{IsTheoryOf, statement_demands, formula_atoms, demanded_atoms, pair_demands, atom_predicate, is_shown_by}
 use Rattle.program_theory.specs.Templates.{HasFewNots, IsTemplateOf, number_among, ground_statements}
 use Rattle.program_theory.specs.Laws.{TemplatesMeanTheories}
 use Rattle.program_theory.proofs.OneTheory.{theories-one}
@@ -65,9 +65,9 @@ module _ (mean : InstancesMeanRules) (rows : RowsMeanInstances) (program : Progr
 
   pub meant : (theory : ProgramTheory) × IsTheoryOf program live theory × Means template theory
   meant = (
-    record { atoms = atoms; demands = said ++ flat_map (pair_demands atoms) atoms },
-    record { instances = is.instances_are; rise = atoms-rise template ground; atoms = is.atoms; demands = refl },
-    record { atoms = refl; demands = all_demands },
+    record { atoms = atoms; demands = said ++ flat_map (pair_demands atoms) atoms; shown = λ atom. is_shown_by program.statements (atom_predicate atom) },
+    record { instances = is.instances_are; rise = atoms-rise template ground; atoms = is.atoms; demands = refl; shown = refl },
+    record { atoms = refl; demands = all_demands; shown = is.shown },
   )
 
 pub templates-mean : InstancesMeanRules → RowsMeanInstances → TemplatesMeanTheories

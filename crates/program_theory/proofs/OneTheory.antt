@@ -38,7 +38,8 @@ same_theory program live here there is_here is_there =
     let demands : here.demands ≡ there.demands = is_here.demands
     ∙ ap (λ (list : List TermAtom). statement_demands program.symbols program.statements live ++ flat_map (pair_demands list) list) atoms
     ∙ sym is_there.demands in
-    λ i. record { atoms = atoms i; demands = demands i }
+    let shown : here.shown ≡ there.shown = is_here.shown ∙ sym is_there.shown in
+    λ i. record { atoms = atoms i; demands = demands i; shown = shown i }
 
 pub theories-one : TheoriesAreOne
 theories-one program a b here there is_here is_there =

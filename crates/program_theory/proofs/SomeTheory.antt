@@ -11,7 +11,7 @@ use Rattle.tel_term.specs.Order.{term_cmp, name_cmp}
 use Rattle.tel_term.proofs.Ordered.{terms-level}
 use Rattle.theory_lists.specs.Atoms.{TermAtom, term_atom_cmp}
 use Rattle.theory_lists.proofs.AtomOrder.{atoms-total}
-use Rattle.program_theory.specs.Theory.{statement_demands, demanded_atoms, pair_demands}
+use Rattle.program_theory.specs.Theory.{statement_demands, demanded_atoms, pair_demands, atom_predicate, is_shown_by}
 use Rattle.program_theory.specs.Laws.{InstancesHaveTheories}
 use Rattle.program_theory.proofs.RisingLists.{rising, IsRising, rising-is}
 
@@ -67,6 +67,6 @@ instances-theory program live are =
     let said = statement_demands program.symbols program.statements live in
     let atoms = rising term_atom_cmp atoms-total (demanded_atoms said) in
     let rise = rising_atoms (demanded_atoms said) in (
-      record { atoms = atoms; demands = said ++ flat_map (pair_demands atoms) atoms },
-      record { instances = are; rise = rise.rise; atoms = rise.members; demands = refl },
+      record { atoms = atoms; demands = said ++ flat_map (pair_demands atoms) atoms; shown = λ atom. is_shown_by program.statements (atom_predicate atom) },
+      record { instances = are; rise = rise.rise; atoms = rise.members; demands = refl; shown = refl },
     )

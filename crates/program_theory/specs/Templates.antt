@@ -1,5 +1,5 @@
 -- The template of a program: its live instances over the numbers of atoms and nodes.
-use Rattle.std.specs.Prelude.{◌≡◌, ◌↔◌, ℕ, ◌+◌, Bool, true, List, [], ◌∷◌, ◌++◌, map, nat_lt, unwrap_or, IsTrue}
+use Rattle.std.specs.Prelude.{◌≡◌, ◌↔◌, ℕ, ◌+◌, ◌<◌, Bool, true, List, [], ◌∷◌, ◌++◌, map, length, nat_lt, unwrap_or, IsTrue}
 use Rattle.std.specs.List.{list_all, position}
 use Rattle.tel_base.specs.Members.{In}
 use Rattle.tel_term.specs.declared.terms.Term.{Term}
@@ -15,15 +15,15 @@ use Rattle.tel_rule.specs.declared.statements.Program.{Program}
 use Rattle.tel_rule.specs.declared.nodes.Node.{Node}
 use Rattle.tel_rule.specs.declared.ground.Instance.{Instance}
 use Rattle.tel_rule.specs.declared.ground.GroundHead.TheVariants as heads
-use Rattle.tel_rule.specs.declared.ground.Show.TheVariants as shows
 use Rattle.tel_rule.specs.Ground.{Ground}
+use Rattle.tel_semantics.specs.Print.{is_shown}
 use Rattle.instance_build.specs.Guarded.{is_guarded_body}
 use Rattle.instance_build.specs.Instances.{Numbered, in_row, ground_rule}
 use Rattle.instance_build.specs.Laws.{have_few_nots}
 use Rattle.theory_lists.specs.Atoms.{TermAtom, same_atom}
-use Rattle.theory_lists.specs.Theories.{atoms_over}
+use Rattle.theory_lists.specs.Theories.{atoms_over, numbered_atom}
 use Rattle.program_theory.specs.Instances.{AreInstances}
-use Rattle.program_theory.specs.Theory.{atom_under, fact_atom, instance_demands, demanded_atoms}
+use Rattle.program_theory.specs.Theory.{atom_under, fact_atom, instance_demands, demanded_atoms, atom_predicate, is_shown_by}
 
 -- ---- numbers
 
@@ -80,7 +80,8 @@ is_guarded_kind (kinds.Show shown) = true
 abbrev pub Extends : List Term → List Term → Type 0
 Extends symbols more = (behind : List Term) × (more ≡ symbols ++ behind)
 
--- the template of a program with these live instances: its atoms are those that the instances speak of, its instances and nodes are theirs, and it shows all atoms
+-- the template of a program with these live instances: its atoms are those that the instances speak of, its instances and nodes are theirs, and it shows the
+-- atoms of the predicates that the program shows
 pub record IsTemplateOf (program : Program) (live : List (List (List Value))) (template : Ground) : Type 0 where
   pub instances_are : AreInstances program live
   pub symbols : Extends program.symbols template.symbols
@@ -88,4 +89,4 @@ pub record IsTemplateOf (program : Program) (live : List (List (List Value))) (t
   pub atoms : (atom : TermAtom) → In atom (atoms_over template) ↔ In atom (demanded_atoms (instance_demands program live))
   pub instances : template.instances ≡ (ground_program program (atoms_over template) live).0
   pub nodes : template.nodes ≡ (ground_program program (atoms_over template) live).1
-  pub show : template.show ≡ shows.All
+  pub shown : (number : ℕ) → number < length template.atoms → is_shown template.show number ≡ is_shown_by program.statements (atom_predicate (numbered_atom template number))

@@ -1,6 +1,7 @@
 -- The theory of a program: each live instance is the formula body -> head, demanded at the instants of its part, and no atom holds together with its negative.
-use Rattle.std.specs.Prelude.{◌≡◌, ◌↔◌, ℕ, ◌+◌, pos, Bool, not, ◌&&◌, List, [], ◌∷◌, ◌++◌, map, length, nat_lt, Ok, Err, IsTrue, if◌then◌else◌}
+use Rattle.std.specs.Prelude.{◌≡◌, ◌↔◌, ℕ, ◌+◌, pos, Bool, true, false, not, ◌&&◌, ◌||◌, List, [], ◌∷◌, ◌++◌, map, length, nat_lt, Ok, Err, IsTrue, if◌then◌else◌}
 use Rattle.std.specs.List.{flat_map, list_any}
+use Rattle.std.specs.Option.{option_to_list}
 use Rattle.tel_base.specs.Members.{In}
 use Rattle.tel_term.specs.declared.terms.Term.{Term}
 use Rattle.tel_term.specs.declared.terms.Term.TheVariants as terms
@@ -15,6 +16,7 @@ use Rattle.tel_rule.specs.declared.formulas.Atom.{Atom}
 use Rattle.tel_rule.specs.declared.statements.Head.{Head}
 use Rattle.tel_rule.specs.declared.statements.Literal.{Literal}
 use Rattle.tel_rule.specs.declared.statements.Fact.{Fact}
+use Rattle.tel_rule.specs.declared.statements.Signature.{Signature}
 use Rattle.tel_rule.specs.declared.statements.Kind.{Kind}
 use Rattle.tel_rule.specs.declared.statements.Kind.TheVariants as kinds
 use Rattle.tel_rule.specs.declared.statements.Statement.{Statement}
@@ -22,6 +24,7 @@ use Rattle.tel_rule.specs.declared.statements.Program.{Program}
 use Rattle.tel_semantics.specs.Formula as formulas
 use Rattle.tel_semantics.specs.Formula.{FormulaOver, negation}
 use Rattle.tel_semantics.specs.Theory.{DemandOver}
+use Rattle.tel_semantics.specs.Tables.{same_predicate}
 use Rattle.instance_build.specs.Meaning.{rule_meaning}
 use Rattle.theory_lists.specs.Atoms.{TermAtom, term_atom_lt, same_atom, negative_of}
 use Rattle.theory_lists.specs.Theories.{ProgramTheory}
@@ -98,15 +101,42 @@ pair_demands atoms atom =
     then record { part = parts.Always; formula = negation (formulas.And (formulas.Atom atom) (formulas.Atom (negative_of atom))) } ∷ []
     else []
 
+-- ---- what is shown
+
+-- the predicate of an atom
+abbrev pub atom_predicate : TermAtom → Signature
+atom_predicate atom = record { negative = atom.negative; name = atom.name; arity = length atom.args }
+
+-- a statement that says what is shown
+abbrev pub is_show : Kind → Bool
+is_show (kinds.Rule head body) = false
+is_show (kinds.Facts fact) = false
+is_show (kinds.Const name value) = false
+is_show (kinds.Show shown) = true
+
+-- the predicate that it names; `#show.` names none
+abbrev pub named_predicates : Kind → List Signature
+named_predicates (kinds.Rule head body) = []
+named_predicates (kinds.Facts fact) = []
+named_predicates (kinds.Const name value) = []
+named_predicates (kinds.Show shown) = option_to_list shown
+
+-- whether the atoms of a predicate are shown: no statement says what is shown, or one names the predicate
+abbrev pub is_shown_by : List Statement → Signature → Bool
+is_shown_by statements predicate =
+    not (list_any (λ (statement : Statement). is_show statement.kind) statements)
+    || list_any (same_predicate predicate) (flat_map (λ (statement : Statement). named_predicates statement.kind) statements)
+
 -- ---- programs
 
 -- the theory of a program with these live instances: its atoms are those that the instances speak of, in their order; it demands what the instances do, and of each plain
--- atom whose negative is among them that not both hold
+-- atom whose negative is among them that not both hold; it shows the atoms of the predicates that the program shows
 pub record IsTheoryOf (program : Program) (live : List (List (List Value))) (theory : ProgramTheory) : Type 0 where
   pub instances : AreInstances program live
   pub rise : IsTrue (rises term_atom_lt theory.atoms)
   pub atoms : (atom : TermAtom) → In atom theory.atoms ↔ In atom (demanded_atoms (instance_demands program live))
   pub demands : theory.demands ≡ instance_demands program live ++ flat_map (pair_demands theory.atoms) theory.atoms
+  pub shown : theory.shown ≡ (λ atom. is_shown_by program.statements (atom_predicate atom))
 
 -- how many places a state of a program has: one for each atom, each node and each instance, and one for whether it is the last
 abbrev pub width_of : Program → List (List (List Value)) → ProgramTheory → ℕ
