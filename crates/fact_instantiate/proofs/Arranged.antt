@@ -11,11 +11,11 @@ use Rattle.tel_rule.specs.declared.statements.Program.{Program}
 use Rattle.tel_rule.specs.declared.nodes.Node.{Node}
 use Rattle.tel_rule.specs.declared.ground.GroundAtom.{GroundAtom}
 use Rattle.tel_rule.specs.declared.ground.Instance.{Instance}
-use Rattle.tel_rule.specs.declared.ground.Show.TheVariants as shows
+use Rattle.tel_rule.specs.declared.ground.Show.{Show}
 use Rattle.tel_rule.specs.Rising.{rises}
 use Rattle.tel_rule.specs.Nodes.{are_nodes}
 use Rattle.tel_rule.specs.Atoms.{pairs_of}
-use Rattle.tel_rule.specs.Ground.{Ground, IsGround, ground_of, instance_in_range, is_guarded}
+use Rattle.tel_rule.specs.Ground.{Ground, IsGround, ground_of, instance_in_range, is_guarded, show_in_range}
 use Rattle.instance_build.specs.Instances.{Numbered, in_row}
 use Rattle.instance_build.proofs.Rows.{rows_are_in_range, rows_are_guarded}
 use Rattle.theory_lists.specs.Atoms.{TermAtom, atom_over, term_atom_lt, term_atom_cmp}
@@ -32,10 +32,13 @@ use Rattle.atom_table.specs.Sorted.{Grows, AreSorted}
 use Rattle.program_instances.specs.Gathered.{named_atoms, place_count, IsGathered}
 use Rattle.program_theory.specs.Ready.{IsReady}
 use Rattle.program_instances.proofs.Named.{stood_for, named-demanded}
+use Rattle.tel_semantics.specs.Print.{is_shown}
 use Rattle.fact_instantiate.specs.Building.{built_statements}
+use Rattle.fact_instantiate.specs.Shown.{show_by}
 use Rattle.fact_instantiate.specs.Instantiated.{template_width}
 use Rattle.fact_instantiate.proofs.Stood.{over_named, all_stay, numbers_same}
 use Rattle.fact_instantiate.proofs.Templated.{AreNumbered, statements_built, statements_fit, statements_guarded}
+use Rattle.fact_instantiate.proofs.ShownNumbers.{show_fits, shown_same}
 
 -- these are the live instances of a program, and their atoms in order over a table of symbols to which that of the program has grown
 record AreArranged (program : Program) (live : List (List (List Value))) (symbols : List Term) (atoms : List GroundAtom) (numbered : List NamedAtom) : Type 0 where
@@ -110,9 +113,9 @@ module _ (program : Program) (live : List (List (List Value))) (symbols : List T
   made_built : ground_program program over live ≡ in_row row 0
   made_built = ap (λ (some : List (Numbered Instance)). in_row some 0) (statements_built program.symbols over numbered 0 program.statements live numbers_are)
 
-  module _ (pairs : List (ℕ × ℕ)) (nodes : List Node) (instances : List Instance) (nodes_are : nodes ≡ (in_row row 0).1) (instances_are : instances ≡ (in_row row 0).0) where
+  module _ (pairs : List (ℕ × ℕ)) (nodes : List Node) (instances : List Instance) (show : Show) (show_is : show ≡ show_by program.statements symbols atoms) (nodes_are : nodes ≡ (in_row row 0).1) (instances_are : instances ≡ (in_row row 0).0) where
     abbrev template : Ground
-    template = ground_of symbols atoms pairs nodes instances shows.All
+    template = ground_of symbols atoms pairs nodes instances show
 
     is_template : IsTemplateOf program live template
     is_template = record {
@@ -122,7 +125,7 @@ module _ (program : Program) (live : List (List (List Value))) (symbols : List T
       atoms = atoms_demanded;
       instances = instances_are ∙ (λ i. (sym made_built i).0);
       nodes = nodes_are ∙ (λ i. (sym made_built i).1);
-      show = refl;
+      shown = λ number below. ap (λ (s : Show). is_shown s number) show_is ∙ shown_same program.statements symbols atoms number below;
     }
 
     is_ground : pairs ≡ pairs_of atoms → IsGround template
@@ -137,7 +140,7 @@ module _ (program : Program) (live : List (List (List Value))) (symbols : List T
           nodes = (λ i. are_nodes (count i) (length (nodes_are i)) 0 (nodes_are i)) ∙ fit.0;
           in_range = (λ i. list_all (instance_in_range (count i) (length (nodes_are i))) (instances_are i)) ∙ fit.1;
           guarded = (λ i. list_all (is_guarded (nodes_are i)) (instances_are i)) ∙ guarded;
-          shown = refl;
+          shown = ap (show_in_range (length atoms)) show_is ∙ show_fits program.statements symbols atoms;
         }
 
     -- it has no more places than are counted, over any list of its atoms
@@ -156,16 +159,17 @@ pub record IsTemplated (program : Program) (live : List (List (List Value))) (kn
   pub ground : IsGround template
   pub few : template_width template ≤ place_count program.statements live (length known)
 
-pub templated : (program : Program) (live : List (List (List Value))) (known : List NamedAtom) (symbols : List Term) (atoms : List GroundAtom) (numbered : List NamedAtom) (pairs : List (ℕ × ℕ)) (nodes : List Node) (instances : List Instance) (statements : List Statement) (lists : List (List (List Value)))
+pub templated : (program : Program) (live : List (List (List Value))) (known : List NamedAtom) (symbols : List Term) (atoms : List GroundAtom) (numbered : List NamedAtom) (pairs : List (ℕ × ℕ)) (nodes : List Node) (instances : List Instance) (show : Show) (statements shown : List Statement) (lists : List (List (List Value)))
     → IsReady program → IsGathered program live known → Grows program.symbols symbols → AreSorted symbols atoms numbered → ((atom : NamedAtom) → In atom numbered ↔ In atom known) → pairs ≡ pairs_of atoms
     → statements ≡ program.statements → lists ≡ live → instances ≡ (in_row (built_statements numbered 0 statements lists) 0).0 → nodes ≡ (in_row (built_statements numbered 0 statements lists) 0).1
-    → IsTemplated program live known (ground_of symbols atoms pairs nodes instances shows.All)
-templated program live known symbols atoms numbered pairs nodes instances statements lists ready gathered grows sorted members paired statements_are lists_are instances_are nodes_are =
+    → shown ≡ program.statements → show ≡ show_by shown symbols atoms → IsTemplated program live known (ground_of symbols atoms pairs nodes instances show)
+templated program live known symbols atoms numbered pairs nodes instances show statements shown lists ready gathered grows sorted members paired statements_are lists_are instances_are nodes_are shown_are show_is =
+    let showing : show ≡ show_by program.statements symbols atoms = show_is ∙ ap (λ (some : List Statement). show_by some symbols atoms) shown_are in
     let are = arranged program live known symbols atoms numbered ready gathered grows sorted members in
     let derived : instances ≡ (in_row (built_statements numbered 0 program.statements live) 0).0 = instances_are ∙ (λ i. (in_row (built_statements numbered 0 (statements_are i) (lists_are i)) 0).0) in
     let placed : nodes ≡ (in_row (built_statements numbered 0 program.statements live) 0).1 = nodes_are ∙ (λ i. (in_row (built_statements numbered 0 (statements_are i) (lists_are i)) 0).1) in
     record {
-      is = is_template program live symbols atoms numbered are pairs nodes instances placed derived;
-      ground = is_ground program live symbols atoms numbered are pairs nodes instances placed derived paired;
-      few = is_small program live symbols atoms numbered are pairs nodes instances placed derived known (λ atom there. (members atom).0 there);
+      is = is_template program live symbols atoms numbered are pairs nodes instances show showing placed derived;
+      ground = is_ground program live symbols atoms numbered are pairs nodes instances show showing placed derived paired;
+      few = is_small program live symbols atoms numbered are pairs nodes instances show showing placed derived known (λ atom there. (members atom).0 there);
     }

@@ -1,3 +1,4 @@
+pub mod ShownNumbers
 pub mod Arranged
 pub mod PlacesCounted
 pub mod RowSteps

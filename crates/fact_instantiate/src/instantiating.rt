@@ -1,6 +1,5 @@
 //! The template of a program.
 ghost use Rattle.std.specs.Prelude.{◌≡◌, ◌≤◌, length, IfOk, IfErr};
-ghost use Rattle.tel_rule.specs.declared.ground.Show.TheVariants as shows;
 ghost use Rattle.tel_rule.specs.Ground.{IsGround, ground_of};
 ghost use Rattle.program_theory.specs.Templates.{IsTemplateOf};
 ghost use Rattle.program_theory.specs.Ready.{IsReady};
@@ -10,6 +9,7 @@ ghost use Rattle.fact_instantiate.specs.Instantiated.{template_width, IsInstanti
 use crate::building::{Built, build};
 use crate::fault::GroundFault;
 use crate::limits::gather_checked;
+use crate::showing::show_of;
 use atom_table::SortedAtoms;
 use program_instances::Gathered;
 use sqlite_items::Items;
@@ -17,10 +17,10 @@ use std::alloc::Global;
 use tel_base::{HashKey, Memory};
 use tel_rule::{Program, Show, Template};
 
-/// The template over these atoms that has these instances, and shows all atoms.
-fn assemble(sorted: SortedAtoms, pairs: Items<(u32, u32)>, built: Built) -> Template
-    requires { IsGround (ground_of sorted.symbols sorted.atoms pairs built.nodes built.instances shows.All) }
-    ensures { result ≡ ground_of sorted.symbols sorted.atoms pairs built.nodes built.instances shows.All }
+/// The template over these atoms that has these instances and shows these atoms.
+fn assemble(sorted: SortedAtoms, pairs: Items<(u32, u32)>, built: Built, show: Show) -> Template
+    requires { IsGround (ground_of sorted.symbols sorted.atoms pairs built.nodes built.instances show) }
+    ensures { result ≡ ground_of sorted.symbols sorted.atoms pairs built.nodes built.instances show }
 {
     Template {
         symbols: sorted.symbols,
@@ -28,7 +28,7 @@ fn assemble(sorted: SortedAtoms, pairs: Items<(u32, u32)>, built: Built) -> Temp
         pairs,
         nodes: built.nodes,
         instances: built.instances,
-        show: Show::All,
+        show,
     }
 }
 
@@ -47,11 +47,17 @@ fn template_of(alloc: Global, program: Program, gathered: Gathered) -> Result<Te
         program.statements.as_slice(),
         gathered.live.as_slice(),
     )?;
-    Ok(assemble(sorted, pairs, built))
+    let show = show_of(
+        alloc,
+        program.statements.as_slice(),
+        &sorted.symbols,
+        sorted.atoms.as_slice(),
+    )?;
+    Ok(assemble(sorted, pairs, built, show))
 }
 
 /// The template of a program that can be instantiated: its live instances over the numbers of their atoms, which are in their order. Its
-/// symbols are those of the program and the names of its atoms, and it shows all atoms. `greatest` is the greatest length, at least 1.
+/// symbols are those of the program and the names of its atoms, and it shows what the program shows. `greatest` is the greatest length, at least 1.
 ///
 /// `Range` says that the statement at this place is the first one that leaves the range of numbers; then no instance was made. `Large`
 /// says that the states of the greatest length have more than 4194304 places together, one for each atom, node and instance and one

@@ -6,6 +6,7 @@ mod fault;
 mod instantiating;
 mod limits;
 mod numbering;
+mod showing;
 
 pub use fault::GroundFault;
 pub use instantiating::instantiate;
