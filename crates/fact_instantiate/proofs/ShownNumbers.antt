@@ -65,7 +65,7 @@ module _ {X : Type 0} (test : X → Bool) where
 -- an atom has the predicate of the atom that it stands for
 same_at : (symbols : List Term) (atoms : List GroundAtom) (number : ℕ) (none : GroundAtom) → number < length atoms → ground_predicate symbols (slice_index_or atoms number none) ≡ atom_predicate (atom_at (map (atom_over symbols) atoms) number)
 same_at symbols [] number none l = absurd (omega (arith, l))
-same_at symbols (atom ∷ more) zero none l i =
+same_at symbols (atom ∷ more) zero none l = λ i.
     record { negative = atom.negative; name = name_of symbols atom; arity = sym (length-map atom.args (term_at symbols)) i }
 same_at symbols (atom ∷ more) (suc number) none l = same_at symbols more number none (omega (arith, l))
 
