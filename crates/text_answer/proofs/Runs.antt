@@ -43,6 +43,18 @@ runs-map IsOne text settings D E then runs = record {
   delivered = then (run_status (map ending_of runs.ends)) (texts_from text 1 runs.ends) runs.delivered;
 }
 
+-- texts that are the same for each end are so for the ends of a run
+texts-same : (IsOne : ℕ → End → Type 0) (text other : ℕ → End → List ℕ) → ((n : ℕ) (end : End) → IsOne n end → text n end ≡ other n end) → (n : ℕ) (ends : List End) → AreEnds IsOne n ends → texts_from text n ends ≡ texts_from other n ends
+texts-same IsOne text other same n [] are = refl
+texts-same IsOne text other same n (end ∷ more) are = ap₂ (λ (bytes rest : List ℕ). bytes ++ rest) (same n end are.0) (texts-same IsOne text other same (n + 1) more are.1)
+
+pub runs-text : (IsOne : ℕ → End → Type 0) (text other : ℕ → End → List ℕ) (settings : Settings) (D : ℕ → List ℕ → Type 0) → ((n : ℕ) (end : End) → IsOne n end → text n end ≡ other n end) → Runs IsOne text settings D → Runs IsOne other settings D
+runs-text IsOne text other settings D same runs = record {
+  ends = runs.ends;
+  is = runs.is;
+  delivered = subst (λ (bytes : List ℕ). D (run_status (map ending_of runs.ends)) bytes) (texts-same IsOne text other same 1 runs.ends runs.is.are) runs.delivered;
+}
+
 module _ (IsOne : ℕ → End → Type 0) (text : ℕ → End → List ℕ) (settings : Settings) where
   are-append : (k : ℕ) (ends more : List End) → AreEnds IsOne k ends → AreEnds IsOne (k + length ends) more → AreEnds IsOne k (ends ++ more)
   are-append k [] more are then = subst (λ (m : ℕ). AreEnds IsOne m more) (omega arith) then

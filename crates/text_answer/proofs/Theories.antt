@@ -1,16 +1,20 @@
 -- A template that a program is instantiated to runs as the program's theory.
-use Rattle.std.proofs.Common.{◌≡◌, ℕ, ◌+◌, ◌*◌, ◌^◌, ◌≤◌, ◌⊎◌, inl, inr, false, List, [], ◌∷◌, length, Option, None, IfSome, refl, sym, ap, ◌∙◌, subst, arith}
+use Rattle.std.proofs.Common.{◌≡◌, ℕ, ◌+◌, ◌*◌, ◌^◌, ◌≤◌, ◌⊎◌, zero, suc, inl, inr, Bool, true, false, ◌&&◌, cond, nat_lt, List, [], ◌∷◌, ◌++◌, take, length, Option, None, IfSome, refl, sym, ap, ◌∙◌, subst, arith}
+use Rattle.std.specs.List.{list_all}
+use Rattle.std.proofs.lemmas.Bool.{and_from, and_parts}
 use Rattle.std.proofs.lemmas.List.{length-map}
+use Rattle.std.proofs.lemmas.List.Folds.{list_all-append}
 use Rattle.tel_base.specs.declared.places.Place.{Place}
 use Rattle.tel_base.specs.Bytes.{AppendsFront}
 use Rattle.tel_term.specs.declared.terms.Term.{Term}
 use Rattle.tel_term.specs.declared.terms.Value.{Value}
 use Rattle.tel_rule.specs.declared.statements.Statement.{Statement}
 use Rattle.tel_rule.specs.declared.statements.Program.{Program}
-use Rattle.tel_rule.specs.declared.ground.Show.TheVariants as shows
 use Rattle.tel_rule.specs.Ground.{Ground, IsGround}
+use Rattle.tel_semantics.specs.declared.ends.How.TheVariants.{Limit, Complete}
+use Rattle.tel_semantics.specs.Equilibrium.{list_of}
 use Rattle.tel_settings.specs.declared.fields.Settings.{Settings}
-use Rattle.tel_engine.specs.Ends.{End, whole_end, IsEnd, most_counted}
+use Rattle.tel_engine.specs.Ends.{End, is_reached, whole_end, IsEnd, most_counted}
 use Rattle.tel_engine.specs.Lists.{text_of}
 use Rattle.instance_build.proofs.Said.{instances_mean_rules}
 use Rattle.instance_build.proofs.Rows.{rows_mean_instances}
@@ -18,7 +22,7 @@ use Rattle.theory_lists.specs.Atoms.{atom_over}
 use Rattle.theory_lists.specs.Theories.{ProgramTheory, Means}
 use Rattle.theory_lists.specs.Lists.{equilibria}
 use Rattle.theory_lists.proofs.SameLists.{lists-same}
-use Rattle.theory_lists.proofs.SamePrint.{prints-same}
+use Rattle.theory_lists.proofs.SamePrint.{prints-same, listed-below}
 use Rattle.program_theory.specs.Theory.{IsTheoryOf, width_of}
 use Rattle.program_theory.specs.Templates.{HasFewNots}
 use Rattle.program_theory.specs.Ready.{IsReadable}
@@ -33,7 +37,7 @@ use Rattle.fact_instantiate.specs.Instantiated.{template_width, IsInstantiated}
 use Rattle.text_answer.specs.Runs.{AreEnds, Runs}
 use Rattle.text_answer.specs.Running.{IsTemplateEnd, RunsTemplate}
 use Rattle.text_answer.specs.Verdict.{largest_text, most_clauses, IsLengthEnd, IsWholeEnd, IsAmple, length_text, RunsTheory}
-use Rattle.text_answer.proofs.Runs.{runs-map, running_start, short_before}
+use Rattle.text_answer.proofs.Runs.{runs-map, runs-text, running_start, short_before}
 
 -- ---- templates
 
@@ -59,14 +63,34 @@ unfolding most_counted most_clauses
 same_ends settings template theory places ground means wide =
     λ i n end. IsEnd (lists-same template theory n ground means i) settings.models settings.conflicts (3 ^ ((n + 1) * wide i)) end
 
-same_texts : (template : Ground) (theory : ProgramTheory) → template.show ≡ shows.All → Means template theory → text_of template ≡ length_text theory
-same_texts template theory show means = λ i n end. prints-same template theory n end.traces end.how show means i
+-- the traces of an end are over the atoms of the template
+taken_below : (p : List (List ℕ) → Bool) (models : ℕ) (all : List (List (List ℕ))) → list_all p all ≡ true → list_all p (take models all) ≡ true
+taken_below p zero all h = refl
+taken_below p (suc models) [] h = refl
+taken_below p (suc models) (trace ∷ more) h =
+    let both = and_parts (p trace) (list_all p more) h in
+    and_from (p trace) (list_all p (take models more)) both.0 (taken_below p models more both.1)
+
+whole_below : (p : List (List ℕ) → Bool) (models : ℕ) (all : List (List (List ℕ))) → list_all p all ≡ true → list_all p (whole_end all models).traces ≡ true
+whole_below p models all h =
+    elim (is_reached models (length all)) as (λ b. list_all p (cond {A = End} b (record { traces = take models all; how = Limit }) (record { traces = all; how = Complete })).traces ≡ true) [ true ↦ taken_below p models all h | false ↦ h ]
+
+end_below : (p : List (List ℕ) → Bool) (models : ℕ) (conflicts : Option ℕ) (most : ℕ) (all : List (List (List ℕ))) (end : End) → list_all p all ≡ true → IsEnd all models conflicts most end → list_all p end.traces ≡ true
+end_below p models conflicts most all end h (inl whole) = subst (λ (e : End). list_all p e.traces ≡ true) (sym whole) (whole_below p models all h)
+end_below p models conflicts most all end h (inr cut) =
+    (and_parts (list_all p end.traces) (list_all p cut.rest) (sym (list_all-append p end.traces cut.rest) ∙ sym (ap (list_all p) cut.front) ∙ whole_below p models all h)).0
+
+-- so what is printed of it is what is printed of the theory
+same_texts : (settings : Settings) (template : Ground) (theory : ProgramTheory) → Means template theory → (n : ℕ) (end : End) → IsTemplateEnd settings template n end → text_of template n end ≡ length_text theory n end
+same_texts settings template theory means n end is =
+    prints-same template theory n end.traces end.how means
+    (end_below (list_all (list_all (λ place. nat_lt place (length template.atoms)))) settings.models settings.conflicts (most_counted template n) (list_of template n) end (listed-below template n) is)
 
 -- the run of a template is that of the theory that it means, with its status
-pub same_run : (D : ℕ → List ℕ → Type 0) (settings : Settings) (template : Ground) (theory : ProgramTheory) (places : ℕ) → template.show ≡ shows.All → IsGround template → Means template theory → template_width template ≡ places → RunsTemplate settings template D → RunsTheory D settings theory places
-same_run D settings template theory places show ground means wide runs =
-    subst (λ (text : ℕ → End → List ℕ). Runs (IsLengthEnd settings theory places) text settings D) (same_texts template theory show means)
-    (subst (λ (IsOne : ℕ → End → Type 0). Runs IsOne (text_of template) settings D) (same_ends settings template theory places ground means wide) runs)
+pub same_run : (D : ℕ → List ℕ → Type 0) (settings : Settings) (template : Ground) (theory : ProgramTheory) (places : ℕ) → IsGround template → Means template theory → template_width template ≡ places → RunsTemplate settings template D → RunsTheory D settings theory places
+same_run D settings template theory places ground means wide runs =
+    subst (λ (IsOne : ℕ → End → Type 0). Runs IsOne (length_text theory) settings D) (same_ends settings template theory places ground means wide)
+    (runs-text (IsTemplateEnd settings template) (text_of template) (length_text theory) settings D (same_texts settings template theory means) runs)
 
 -- each length of a theory has an end, and so the theory has a run
 some_end : (settings : Settings) (theory : ProgramTheory) (places n : ℕ) → (end : End) × IsLengthEnd settings theory places n end

@@ -39,9 +39,8 @@ use Rattle.fact_instantiate.specs.declared.fault.GroundFault.TheVariants as grou
 use Rattle.fact_instantiate.specs.Instantiated.{most_places, template_width, IsInstantiated, IsGroundFault}
 use Rattle.text_answer.specs.Runs.{ending_of, texts_from}
 use Rattle.text_answer.specs.Running.{RunsTemplate}
-use Rattle.text_answer.specs.Shown.{first_shown}
-use Rattle.text_answer.specs.Verdict.{largest_text, Verdict, Accepted, Refused, Unbuilt, Faulty, Leaving, Large, SayUnshown, SayChecked, SayLarge, IsVerdict, places_in, length_text, IsLengthEnd, HasOutcome, Completes, cause_line, large_line, range_line, unbuilt_line, fault_line, TellsOfText, ComesOfText, Answers}
-use Rattle.text_answer.specs.Refusals.{DeliversFault, DeliversCause, DeliversProgram, DeliversUnshown, DeliversRead}
+use Rattle.text_answer.specs.Verdict.{largest_text, Verdict, Accepted, Refused, Faulty, Leaving, Large, SayChecked, SayLarge, IsVerdict, places_in, length_text, IsLengthEnd, HasOutcome, Completes, cause_line, large_line, range_line, fault_line, TellsOfText, ComesOfText, Answers}
+use Rattle.text_answer.specs.Refusals.{DeliversFault, DeliversCause, DeliversProgram, DeliversRead}
 use Rattle.checked_programs.proofs.Ready.{is_ready}
 use Rattle.text_answer.proofs.Runs.{runs-map}
 use Rattle.text_answer.proofs.Theories.{meant, same_width, same_run, some_run, ample-whole, none_first, texts_readable}
@@ -50,7 +49,6 @@ use Rattle.text_answer.proofs.Theories.{meant, same_width, same_run, some_run, a
 outcome_all : (D : ℕ → List ℕ → Type 0) (settings : Settings) (verdict : Verdict) → ((status : ℕ) (bytes : List ℕ) → D status bytes) → HasOutcome D settings verdict
 outcome_all D settings (Accepted theory width) all = some_run D settings theory width all
 outcome_all D settings (Refused fault) all = all 65 (fault_line fault)
-outcome_all D settings (Unbuilt place) all = all 65 (unbuilt_line place)
 outcome_all D settings (Faulty cause) all = all 65 (cause_line cause)
 outcome_all D settings (Leaving place) all = all 65 (range_line place)
 outcome_all D settings Large all = all 69 large_line
@@ -58,20 +56,17 @@ outcome_all D settings Large all = all 69 large_line
 outcome_map : (D E : ℕ → List ℕ → Type 0) (settings : Settings) (verdict : Verdict) → ((status : ℕ) (bytes : List ℕ) → D status bytes → E status bytes) → HasOutcome D settings verdict → HasOutcome E settings verdict
 outcome_map D E settings (Accepted theory width) then has = runs-map (IsLengthEnd settings theory width) (length_text theory) settings D E then has
 outcome_map D E settings (Refused fault) then has = then 65 (fault_line fault) has
-outcome_map D E settings (Unbuilt place) then has = then 65 (unbuilt_line place) has
 outcome_map D E settings (Faulty cause) then has = then 65 (cause_line cause) has
 outcome_map D E settings (Leaving place) then has = then 65 (range_line place) has
 outcome_map D E settings Large then has = then 69 large_line has
 
 -- what is delivered for a program is so for what the texts say it is
-unshown-delivers : (D : ℕ → List ℕ → Type 0) (settings : Settings) (texts : List (List ℕ)) (program : Program) → ((other : Program) → IsProgram texts other → other ≡ program) → DeliversRead D settings program → (other : Program) → SayUnshown texts other → DeliversUnshown D settings other
-unshown-delivers D settings texts program only delivers other says =
-    let same = only other says.reads in
-    subst (DeliversUnshown D settings) (sym same) (delivers.unshown (subst (λ (p : Program). first_shown p.statements ≡ None) same says.none))
+read-delivers : (D : ℕ → List ℕ → Type 0) (settings : Settings) (texts : List (List ℕ)) (program : Program) → ((other : Program) → IsProgram texts other → other ≡ program) → DeliversRead D settings program → (other : Program) → IsProgram texts other → DeliversRead D settings other
+read-delivers D settings texts program only delivers other reads = subst (DeliversRead D settings) (sym (only other reads)) delivers
 
 checked-delivers : (D : ℕ → List ℕ → Type 0) (settings : Settings) (texts : List (List ℕ)) (program : Program) → ((other : Program) → IsProgram texts other → other ≡ program) → DeliversRead D settings program → (checked : Program) → SayChecked texts checked → DeliversProgram D settings checked
 checked-delivers D settings texts program only delivers checked says =
-    (unshown-delivers D settings texts program only delivers says.source says.unshown).checked says.sound checked says.replaced
+    (read-delivers D settings texts program only delivers says.source says.reads).checked says.sound checked says.replaced
 
 -- what is delivered for texts that are a program, whatever their verdict is said to be
 pub program-delivers : (D : ℕ → List ℕ → Type 0) (settings : Settings) (texts : List (List ℕ)) (program : Program) → total_bytes texts ≤ largest_text → ((other : Program) → IsProgram texts other → other ≡ program) → ((fault : ReadFault) → IsFirstFault texts fault → ⊥) → DeliversRead D settings program → (verdict : Verdict) → IsVerdict settings texts verdict → HasOutcome D settings verdict
@@ -79,12 +74,9 @@ program-delivers D settings texts program small only sound delivers (Accepted th
     let says = v.1 in
     (checked-delivers D settings texts program only delivers says.program says.checked).accepted says.ranges says.live theory says.is width says.wide says.few
 program-delivers D settings texts program small only sound delivers (Refused fault) v = absurd (sound fault v.1)
-program-delivers D settings texts program small only sound delivers (Unbuilt place) v =
-    let says = v.1 in
-    delivers.unbuilt place (subst (λ (p : Program). first_shown p.statements ≡ Some place) (only says.program says.reads) says.first)
 program-delivers D settings texts program small only sound delivers (Faulty cause) v =
     let says = v.1 in
-    (unshown-delivers D settings texts program only delivers says.program says.unshown).faulty cause says.first
+    (read-delivers D settings texts program only delivers says.program says.reads).faulty cause says.first
 program-delivers D settings texts program small only sound delivers (Leaving place) v =
     let says = v.1 in
     (checked-delivers D settings texts program only delivers says.program says.checked).leaving says.few place says.first
@@ -95,20 +87,18 @@ program-delivers D settings texts program small only sound delivers Large (inr v
 
 -- the same for texts that are no program, whose first fault is this one
 pub refused-delivers : (D : ℕ → List ℕ → Type 0) (settings : Settings) (texts : List (List ℕ)) (fault : ReadFault) → total_bytes texts ≤ largest_text → ((other : ReadFault) → IsFirstFault texts other → other ≡ fault) → ((program : Program) → IsProgram texts program → ⊥) → D 65 (fault_line fault) → (verdict : Verdict) → IsVerdict settings texts verdict → HasOutcome D settings verdict
-refused-delivers D settings texts fault small first none delivered (Accepted theory width) v = let says = v.1 in absurd (none says.checked.source says.checked.unshown.reads)
+refused-delivers D settings texts fault small first none delivered (Accepted theory width) v = let says = v.1 in absurd (none says.checked.source says.checked.reads)
 refused-delivers D settings texts fault small first none delivered (Refused other) v =
     subst (λ (f : ReadFault). D 65 (fault_line f)) (sym (first other v.1)) delivered
-refused-delivers D settings texts fault small first none delivered (Unbuilt place) v = let says = v.1 in absurd (none says.program says.reads)
-refused-delivers D settings texts fault small first none delivered (Faulty cause) v = let says = v.1 in absurd (none says.program says.unshown.reads)
-refused-delivers D settings texts fault small first none delivered (Leaving place) v = let says = v.1 in absurd (none says.checked.source says.checked.unshown.reads)
+refused-delivers D settings texts fault small first none delivered (Faulty cause) v = let says = v.1 in absurd (none says.program says.reads)
+refused-delivers D settings texts fault small first none delivered (Leaving place) v = let says = v.1 in absurd (none says.checked.source says.checked.reads)
 refused-delivers D settings texts fault small first none delivered Large (inl long) = absurd (omega arith)
-refused-delivers D settings texts fault small first none delivered Large (inr v) = let says = v.1 in absurd (none says.checked.source says.checked.unshown.reads)
+refused-delivers D settings texts fault small first none delivered Large (inr v) = let says = v.1 in absurd (none says.checked.source says.checked.reads)
 
 -- and for texts that are too long
 pub long-delivers : (D : ℕ → List ℕ → Type 0) (settings : Settings) (texts : List (List ℕ)) → largest_text < total_bytes texts → D 69 large_line → (verdict : Verdict) → IsVerdict settings texts verdict → HasOutcome D settings verdict
 long-delivers D settings texts long delivered (Accepted theory width) v = absurd (omega (arith, v.0))
 long-delivers D settings texts long delivered (Refused fault) v = absurd (omega (arith, v.0))
-long-delivers D settings texts long delivered (Unbuilt place) v = absurd (omega (arith, v.0))
 long-delivers D settings texts long delivered (Faulty cause) v = absurd (omega (arith, v.0))
 long-delivers D settings texts long delivered (Leaving place) v = absurd (omega (arith, v.0))
 long-delivers D settings texts long delivered Large v = delivered
@@ -182,21 +172,13 @@ checked_has D settings texts program ready small says delivers =
       ]
     ]
 
--- of a program without a `#show`
-unshown_has : (D : ℕ → List ℕ → Type 0) (settings : Settings) (texts : List (List ℕ)) (program : Program) → IsReadable program → total_bytes texts ≤ largest_text → SayUnshown texts program → DeliversUnshown D settings program → (verdict : Verdict) × IsVerdict settings texts verdict × HasOutcome D settings verdict
-unshown_has D settings texts program read small says delivers =
-    elim (sound_or_cause program) [
-      | inl s ↦ checked_has D settings texts s.1.0 (is_ready program s.1.0 read s.0 s.1.1) small (record { source = program; unshown = says; sound = s.0; replaced = s.1.1 }) (delivers.checked s.0 s.1.0 s.1.1)
-      | inr c ↦ (Faulty c.0, (small, record { program = program; unshown = says; first = c.1 }), delivers.faulty c.0 c.1)
-    ]
-
 -- and of one that was read
 program_has : (D : ℕ → List ℕ → Type 0) (settings : Settings) (texts : List (List ℕ)) (program : Program) → IsReadable program → total_bytes texts ≤ largest_text → IsProgram texts program → DeliversRead D settings program → (verdict : Verdict) × IsVerdict settings texts verdict × HasOutcome D settings verdict
-program_has D settings texts program read small reads delivers = by_first (first_shown program.statements) refl
-  where
-    by_first : (first : Option Place) → first_shown program.statements ≡ first → (verdict : Verdict) × IsVerdict settings texts verdict × HasOutcome D settings verdict
-    by_first (Some place) is = (Unbuilt place, (small, record { program = program; reads = reads; first = is }), delivers.unbuilt place is)
-    by_first None is = unshown_has D settings texts program read small (record { reads = reads; none = is }) (delivers.unshown is)
+program_has D settings texts program read small reads delivers =
+    elim (sound_or_cause program) [
+      | inl s ↦ checked_has D settings texts s.1.0 (is_ready program s.1.0 read s.0 s.1.1) small (record { source = program; reads = reads; sound = s.0; replaced = s.1.1 }) (delivers.checked s.0 s.1.0 s.1.1)
+      | inr c ↦ (Faulty c.0, (small, record { program = program; reads = reads; first = c.1 }), delivers.faulty c.0 c.1)
+    ]
 
 pub program-answers : (settings : Settings) (texts : List (List ℕ)) (program : Program) (code : ℕ) (old new : Option (List ℕ)) → IsReadable program → total_bytes texts ≤ largest_text → IsProgram texts program → DeliversRead (λ status bytes. Delivers code status bytes old new) settings program → TellsOfText code → Answers settings texts code old new
 program-answers settings texts program code old new read small reads delivers tells =
@@ -231,7 +213,6 @@ delivered-kind settings (Accepted theory width) code old new runs =
     kind_of (run_status endings) (texts_from (length_text theory) 1 runs.ends) code old new
     (run_kind ComesOfText (list_any (λ (e : Ending). nat_lt 0 e.traces) endings) (list_any (λ (e : Ending). is_unfinished e.how) endings) refl refl refl) runs.delivered
 delivered-kind settings (Refused fault) code old new delivered = kind_of 65 (fault_line fault) code old new refl delivered
-delivered-kind settings (Unbuilt place) code old new delivered = kind_of 65 (unbuilt_line place) code old new refl delivered
 delivered-kind settings (Faulty cause) code old new delivered = kind_of 65 (cause_line cause) code old new refl delivered
 delivered-kind settings (Leaving place) code old new delivered = kind_of 65 (range_line place) code old new refl delivered
 delivered-kind settings Large code old new delivered = kind_of 69 large_line code old new refl delivered
@@ -276,7 +257,7 @@ unit_program : (settings : Settings) (program : Program) → DeliversProgram (λ
 unit_program settings program = record { accepted = λ _ _ theory _ width _ _. some_run (λ status bytes. Unit {0}) settings theory width (λ _ _. tt); leaving = λ _ _ _. tt; large = λ _ _ _ _ _. tt }
 
 unit_read : (settings : Settings) (program : Program) → DeliversRead (λ status bytes. Unit {0}) settings program
-unit_read settings program = record { unbuilt = λ _ _. tt; unshown = λ _. record { checked = λ _ replaced _. unit_program settings replaced; faulty = λ _ _. tt } }
+unit_read settings program = record { checked = λ _ replaced _. unit_program settings replaced; faulty = λ _ _. tt }
 
 -- texts have a verdict
 pub some_verdict : (settings : Settings) (texts : List (List ℕ)) → (verdict : Verdict) × IsVerdict settings texts verdict
@@ -302,7 +283,7 @@ cut_program code old new settings program is same = record {
 pub template-delivers : (D : ℕ → List ℕ → Type 0) (settings : Settings) (program : Program) (template : Ground) → HasFewNots program → IsGround template → IsInstantiated program (max settings.imax 1) template → RunsTemplate settings template D → DeliversProgram D settings program
 template-delivers D settings program template nots ground made runs = record {
   accepted = λ none live theory is width wide few.
-      same_run D settings template theory width made.is.show ground (meant program (max settings.imax 1) template live theory nots ground made is) (same_width program (max settings.imax 1) template live theory nots ground made is ∙ sym wide) runs;
+      same_run D settings template theory width ground (meant program (max settings.imax 1) template live theory nots ground made is) (same_width program (max settings.imax 1) template live theory nots ground made is ∙ sym wide) runs;
   leaving = λ few place first. absurd (none_first program.statements program.symbols place made.ranges first);
   large = λ ranges live theory is many.
       let width = same_width program (max settings.imax 1) template live theory nots ground made is in
@@ -340,20 +321,20 @@ large-delivers D settings program fault delivered = record {
 -- ---- what a check answers
 
 -- a program that passes is answered as what it is with its constants replaced
-pub passed-delivers : (D : ℕ → List ℕ → Type 0) (settings : Settings) (program checked : Program) → IsSound program → IsReplaced program checked → DeliversProgram D settings checked → DeliversUnshown D settings program
+pub passed-delivers : (D : ℕ → List ℕ → Type 0) (settings : Settings) (program checked : Program) → IsSound program → IsReplaced program checked → DeliversProgram D settings checked → DeliversRead D settings program
 passed-delivers D settings program checked sound replaced delivers = record {
   checked = λ _ other says. subst (DeliversProgram D settings) (one_replaced program checked other replaced says) delivers;
   faulty = λ cause first. absurd (sound_none program cause sound first);
 }
 
-first_delivers : (settings : Settings) (program : Program) (cause : CheckFault) (code : ℕ) (old new : Option (List ℕ)) → IsFirstCause program cause → Delivers code 65 (cause_line cause) old new → DeliversUnshown (λ status bytes. Delivers code status bytes old new) settings program
+first_delivers : (settings : Settings) (program : Program) (cause : CheckFault) (code : ℕ) (old new : Option (List ℕ)) → IsFirstCause program cause → Delivers code 65 (cause_line cause) old new → DeliversRead (λ status bytes. Delivers code status bytes old new) settings program
 first_delivers settings program cause code old new is delivered = record {
   checked = λ sound other says. absurd (sound_none program cause sound is);
   faulty = λ other first. subst (λ (c : CheckFault). Delivers code 65 (cause_line c) old new) (one_cause program cause other is first) delivered;
 }
 
 -- and one that doesn't is answered by its first cause, unless memory runs out
-pub cause-delivers : (settings : Settings) (program : Program) (cause : CheckFault) (code : ℕ) (old new : Option (List ℕ)) → (cause ≢ causes.Memory → IsFirstCause program cause) → DeliversCause cause code old new → DeliversUnshown (λ status bytes. Delivers code status bytes old new) settings program
+pub cause-delivers : (settings : Settings) (program : Program) (cause : CheckFault) (code : ℕ) (old new : Option (List ℕ)) → (cause ≢ causes.Memory → IsFirstCause program cause) → DeliversCause cause code old new → DeliversRead (λ status bytes. Delivers code status bytes old new) settings program
 cause-delivers settings program causes.Memory code old new of delivered = record {
   checked = λ sound other says. cut_program code old new settings other delivered.0 delivered.1;
   faulty = λ other first. inr (inl delivered.0, front-of-nothing old new _ delivered.1);
@@ -362,19 +343,3 @@ cause-delivers settings program (causes.Unbound place name) code old new of deli
 cause-delivers settings program (causes.Arrow place) code old new of delivered = first_delivers settings program (causes.Arrow place) code old new (of (λ e. cc)) delivered
 cause-delivers settings program (causes.Prime place) code old new of delivered = first_delivers settings program (causes.Prime place) code old new (of (λ e. cc)) delivered
 cause-delivers settings program (causes.Const place name) code old new of delivered = first_delivers settings program (causes.Const place name) code old new (of (λ e. cc)) delivered
-
--- ---- what is read
-
--- a program with a `#show` is answered by that
-pub shown-delivers : (D : ℕ → List ℕ → Type 0) (settings : Settings) (program : Program) (place : Place) → first_shown program.statements ≡ Some place → D 65 (unbuilt_line place) → DeliversRead D settings program
-shown-delivers D settings program place is delivered = record {
-  unbuilt = λ other first. let same : place ≡ other = cc in subst (λ (p : Place). D 65 (unbuilt_line p)) same delivered;
-  unshown = λ none. let other : Some place ≡ None = sym is ∙ none in absurd (cc);
-}
-
--- and one without as such
-pub unshown-reads : (D : ℕ → List ℕ → Type 0) (settings : Settings) (program : Program) → first_shown program.statements ≡ None → DeliversUnshown D settings program → DeliversRead D settings program
-unshown-reads D settings program is delivers = record {
-  unbuilt = λ place first. let other : None ≡ Some place = sym is ∙ first in absurd (cc);
-  unshown = λ none. delivers;
-}

@@ -1,5 +1,5 @@
 -- What is answered for a fault of the reader, and for a program as it is read.
-use Rattle.std.specs.Prelude.{◌≡◌, ℕ, ◌<◌, ◌≤◌, ◌⊎◌, List, Option, Some, None, MatchOption}
+use Rattle.std.specs.Prelude.{◌≡◌, ℕ, ◌<◌, ◌≤◌, ◌⊎◌, List, Option, MatchOption}
 use Rattle.tel_base.specs.declared.places.Place.{Place}
 use Rattle.tel_term.specs.declared.terms.Value.{Value}
 use Rattle.tel_rule.specs.declared.statements.Program.{Program}
@@ -15,8 +15,7 @@ use Rattle.theory_lists.specs.Theories.{ProgramTheory}
 use Rattle.program_theory.specs.Theory.{IsTheoryOf, width_of}
 use Rattle.fact_instantiate.specs.Instantiated.{most_places}
 use Rattle.text_answer.specs.Delivery.{Delivers}
-use Rattle.text_answer.specs.Shown.{first_shown}
-use Rattle.text_answer.specs.Verdict.{line_at, named, cause_line, unbuilt_line, range_line, large_line, places_in, RunsTheory}
+use Rattle.text_answer.specs.Verdict.{line_at, named, cause_line, range_line, large_line, places_in, RunsTheory}
 
 -- a fault of the reader is delivered, and for want of memory nothing is printed
 abbrev pub DeliversFault : ReadFault → ℕ → Option (List ℕ) → Option (List ℕ) → Type 0
@@ -37,12 +36,7 @@ pub record DeliversProgram (D : ℕ → List ℕ → Type 0) (settings : Setting
   pub leaving : (HaveMoreRows program.statements most_places → ⊥) → (place : Place) → IsFirstLeaving program.statements program.symbols place → D 65 (range_line place)
   pub large : HaveMoreRows program.statements most_places ⊎ NoneLeavesRange program.statements program.symbols → (live : List (List (List Value))) (theory : ProgramTheory) → IsTheoryOf program live theory → most_places < places_in settings (width_of program live theory) → D 69 large_line
 
--- what is delivered for a program without a `#show`: as for what it is with its constants replaced, or for its first cause
-pub record DeliversUnshown (D : ℕ → List ℕ → Type 0) (settings : Settings) (program : Program) : Type 0 where
+-- what is delivered for a program as it is read: as for what it is with its constants replaced, or for its first cause
+pub record DeliversRead (D : ℕ → List ℕ → Type 0) (settings : Settings) (program : Program) : Type 0 where
   pub checked : IsSound program → (replaced : Program) → IsReplaced program replaced → DeliversProgram D settings replaced
   pub faulty : (cause : CheckFault) → IsFirstCause program cause → D 65 (cause_line cause)
-
--- what is delivered for a program as it is read
-pub record DeliversRead (D : ℕ → List ℕ → Type 0) (settings : Settings) (program : Program) : Type 0 where
-  pub unbuilt : (place : Place) → first_shown program.statements ≡ Some place → D 65 (unbuilt_line place)
-  pub unshown : first_shown program.statements ≡ None → DeliversUnshown D settings program

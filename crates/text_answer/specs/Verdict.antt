@@ -24,18 +24,16 @@ use Rattle.program_theory.specs.Theory.{IsTheoryOf, width_of}
 use Rattle.fact_instantiate.specs.Instantiated.{most_places}
 use Rattle.tel_engine.specs.Ends.{End, whole_end, IsEnd}
 use Rattle.text_answer.specs.Runs.{ending_of, AreEnds, texts_from, IsRunOf, Runs}
-use Rattle.text_answer.specs.Shown.{first_shown}
 
 -- the most bytes that all texts together may have
 abbrev pub largest_text : ℕ
 largest_text = 1048576
 
--- Accepted, with the theory that they mean and how many variables it has in a state; refused for their first fault, for their first `#show`, for the first cause of a statement, for the first statement that leaves
+-- Accepted, with the theory that they mean and how many variables it has in a state; refused for their first fault, for the first cause of a statement, for the first statement that leaves
 -- the range of numbers, or for their size.
 pub data Verdict : Type 0 where
   Accepted : ProgramTheory → ℕ → Verdict
   Refused : ReadFault → Verdict
-  Unbuilt : Place → Verdict
   Faulty : CheckFault → Verdict
   Leaving : Place → Verdict
   Large : Verdict
@@ -44,27 +42,16 @@ pub data Verdict : Type 0 where
 abbrev pub places_in : Settings → ℕ → ℕ
 places_in settings width = max settings.imax 1 * width
 
--- the texts are a program, whose first `#show` stands here
-pub record SayUnbuilt (texts : List (List ℕ)) (place : Place) : Type 0 where
-  pub program : Program
-  pub reads : IsProgram texts program
-  pub first : first_shown program.statements ≡ Some place
-
--- the texts are a program without a `#show`
-pub record SayUnshown (texts : List (List ℕ)) (program : Program) : Type 0 where
-  pub reads : IsProgram texts program
-  pub none : first_shown program.statements ≡ None
-
--- its first cause is this one
+-- the texts are a program, whose first cause is this one
 pub record SayFaulty (texts : List (List ℕ)) (cause : CheckFault) : Type 0 where
   pub program : Program
-  pub unshown : SayUnshown texts program
+  pub reads : IsProgram texts program
   pub first : IsFirstCause program cause
 
--- or no cause stands in it, and with its constants replaced it is this one
+-- or in which no cause stands, and with its constants replaced it is this one
 pub record SayChecked (texts : List (List ℕ)) (program : Program) : Type 0 where
   pub source : Program
-  pub unshown : SayUnshown texts source
+  pub reads : IsProgram texts source
   pub sound : IsSound source
   pub replaced : IsReplaced source program
 
@@ -95,11 +82,10 @@ pub record SayTheory (settings : Settings) (texts : List (List ℕ)) (theory : P
   pub wide : width ≡ width_of program live theory
   pub few : places_in settings width ≤ most_places
 
--- The size is looked at first, then the grammar, then `#show`, then the causes of statements, then the range of numbers, and then the places at the greatest length.
+-- The size is looked at first, then the grammar, then the causes of statements, then the range of numbers, and then the places at the greatest length.
 abbrev pub IsVerdict : Settings → List (List ℕ) → Verdict → Type 0
 IsVerdict settings texts (Accepted theory width) = (total_bytes texts ≤ largest_text) × SayTheory settings texts theory width
 IsVerdict settings texts (Refused fault) = (total_bytes texts ≤ largest_text) × IsFirstFault texts fault
-IsVerdict settings texts (Unbuilt place) = (total_bytes texts ≤ largest_text) × SayUnbuilt texts place
 IsVerdict settings texts (Faulty cause) = (total_bytes texts ≤ largest_text) × SayFaulty texts cause
 IsVerdict settings texts (Leaving place) = (total_bytes texts ≤ largest_text) × SayLeaving texts place
 IsVerdict settings texts Large = (largest_text < total_bytes texts) ⊎ ((total_bytes texts ≤ largest_text) × SayLarge settings texts)
@@ -180,9 +166,6 @@ cause_line (causes.Prime place) = line_at (codes "Prime") place
 cause_line (causes.Const place name) = line_at (codes "Const " ++ name) place
 cause_line causes.Memory = []
 
-abbrev pub unbuilt_line : Place → List ℕ
-unbuilt_line place = line_at (codes "Unbuilt") place
-
 abbrev pub range_line : Place → List ℕ
 range_line place = line_at (codes "Range") place
 
@@ -196,7 +179,6 @@ read_line place = codes "error: read " ++ decimal (place + 1) ++ codes "\n"
 abbrev pub HasOutcome : (ℕ → List ℕ → Type 0) → Settings → Verdict → Type 0
 HasOutcome D settings (Accepted theory width) = RunsTheory D settings theory width
 HasOutcome D settings (Refused fault) = D 65 (fault_line fault)
-HasOutcome D settings (Unbuilt place) = D 65 (unbuilt_line place)
 HasOutcome D settings (Faulty cause) = D 65 (cause_line cause)
 HasOutcome D settings (Leaving place) = D 65 (range_line place)
 HasOutcome D settings Large = D 69 large_line

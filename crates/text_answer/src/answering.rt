@@ -1,15 +1,13 @@
 //! The answer to texts: their verdict, and what is printed for it.
-ghost use Rattle.std.specs.Prelude.{◌≡◌, ℕ, ◌<◌, ◌≤◌, ◌^◌, ◌*◌, List, max, Option, length, IsTrue, IfOk, IfErr, OnOk, Some, None};
-ghost use Rattle.tel_base.specs.declared.places.Place.{Place};
+ghost use Rattle.std.specs.Prelude.{◌≡◌, ℕ, ◌<◌, ◌≤◌, ◌^◌, ◌*◌, List, max, length, IsTrue, IfOk, IfErr, OnOk};
 ghost use Rattle.tel_rule.specs.Ground.{IsGround};
 ghost use Rattle.part_syntax.specs.Programs.{total_bytes};
 ghost use Rattle.program_theory.specs.Ready.{IsReadable, IsReady};
 ghost use Rattle.fact_instantiate.specs.Instantiated.{most_places, template_width, IsInstantiated, IsGroundFault};
 ghost use Rattle.text_answer.specs.Delivery.{code_of, Delivers, TellsFaults};
 ghost use Rattle.text_answer.specs.Running.{RunsTemplate};
-ghost use Rattle.text_answer.specs.Shown.{is_show, first_shown};
 ghost use Rattle.text_answer.specs.Verdict.{largest_text, Verdict, IsVerdict, places_in, HasOutcome, TellsOfText, ComesOfText, Answers};
-ghost use Rattle.text_answer.specs.Refusals.{DeliversFault, DeliversCause, DeliversProgram, DeliversUnshown, DeliversRead};
+ghost use Rattle.text_answer.specs.Refusals.{DeliversFault, DeliversCause, DeliversProgram, DeliversRead};
 
 use crate::refusing::{refuse_at, refuse_large, refuse_named};
 use crate::running::{RunFault, print_run};
@@ -18,8 +16,8 @@ use fact_instantiate::{GroundFault, instantiate};
 use part_syntax::{ReadFault, read};
 use rule_check::{CheckFault, check, key_of};
 use std::alloc::Global;
-use tel_base::{Place, Sink, Text};
-use tel_rule::{Kind, Program, Statement, Template};
+use tel_base::{Sink, Text};
+use tel_rule::{Program, Template};
 use tel_settings::Settings;
 
 /// Prints a run, and answers its status.
@@ -100,54 +98,15 @@ fn answer_cause<O: Sink>(out: &mut O, cause: &CheckFault) -> Status
     }
 }
 
-/// Answers a program without a `#show`.
-fn answer_unshown<O: Sink>(
-    alloc: Global,
-    out: &mut O,
-    settings: &Settings,
-    program: Program,
-) -> Status
-    requires { IsReadable program }
-    ensures delivers { DeliversUnshown (λ status bytes. Delivers (code_of result) status bytes (O.bytes out.old) (O.bytes out.new)) settings.now program }
-    ensures faults { TellsFaults (code_of result) (O.faults out.old) (O.faults out.new) }
-{
-    match check(alloc, program) {
-        Ok(checked) => answer_program(alloc, out, settings, checked.into_program()),
-        Err(cause) => answer_cause(out, &cause),
-    }
-}
-
-/// Whether a statement says what is shown.
-fn is_show(kind: &Kind) -> bool
-    ensures { result ≡ is_show kind.now }
-{
-    match kind {
-        Kind::Show(_) => true,
-        _ => false,
-    }
-}
-
-/// The place of the first `#show`.
-fn first_shown(statements: &[Statement]) -> Option<Place>
-    ensures { result ≡ first_shown statements.now }
-{
-    for statement in statements {
-        if is_show(&statement.kind) {
-            return Some(statement.place);
-        }
-    }
-    None
-}
-
 /// Answers a program as it is read.
 fn answer_read<O: Sink>(alloc: Global, out: &mut O, settings: &Settings, program: Program) -> Status
     requires { IsReadable program }
     ensures delivers { DeliversRead (λ status bytes. Delivers (code_of result) status bytes (O.bytes out.old) (O.bytes out.new)) settings.now program }
     ensures faults { TellsFaults (code_of result) (O.faults out.old) (O.faults out.new) }
 {
-    match first_shown(program.statements.as_slice()) {
-        Some(place) => refuse_at(out, b"Unbuilt", place),
-        None => answer_unshown(alloc, out, settings, program),
+    match check(alloc, program) {
+        Ok(checked) => answer_program(alloc, out, settings, checked.into_program()),
+        Err(cause) => answer_cause(out, &cause),
     }
 }
 
