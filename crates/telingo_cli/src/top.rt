@@ -112,7 +112,7 @@ fn answer_words<S: Source, O: Sink>(
 /// `words` are the words after the program's name, `texts` is where the files are read, `out` gets
 /// what is printed, and `log` nothing. The answer is the exit status: 10 where a trace was printed,
 /// 20 where none was and every length was completed, 30 where none was and the budget of conflicts cut a length, 64 for words
-/// that are no line of the command, 65 for texts that are no program or have a `#show`, 66 for a read that failed, 69 for texts that
+/// that are no line of the command, 65 for texts that are no program or have a statement that can't be instantiated, 66 for a read that failed, 69 for texts that
 /// are too large, 71 for want of memory, and 74 for a write that failed.
 pub fn telingo<S: Source, O: Sink, L: Sink>(
     alloc: Global,
