@@ -22,3 +22,5 @@ at(X,P) :- 'at(X,P), item(X), bank(P), not take(X).
 
 #program final.
 :- at(X,west), being(X).
+
+#show take/1.
