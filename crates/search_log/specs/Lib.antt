@@ -1,0 +1,4 @@
+pub mod Alike
+pub mod ValidLogs
+pub mod Held
+pub mod Laws
