@@ -1,4 +1,5 @@
 pub mod Alike
 pub mod ValidLogs
 pub mod Held
+pub mod Writing
 pub mod Laws
