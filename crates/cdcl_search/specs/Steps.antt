@@ -88,13 +88,14 @@ pub record IsOneMore (old new : View) (begun : Begun) (id : ClauseId) : Type 0 w
 abbrev pub IsFalseOne : View → View → Begun → ClauseId → Type 0
 IsFalseOne old new begun id = (more : IsOneMore old new begun id) × IsTrue (refutes (holds old.trail.entries) more.one.lits)
 
--- a clause that blocks the walk that the trail is, with the set of its true variables
+-- a clause of different variables that blocks the walk that the trail is, with the set of its true variables
 pub record IsBlocked (old new : View) (begun : Begun) (id : ClauseId) : Type 0 where
   pub one : Kept
   pub number : id.place ≡ length old.kept
   pub kept : new.kept ≡ old.kept ++ one ∷ []
   pub length : one.length ≡ begun.n
   pub kind : one.kind ≡ kinds.Block
+  pub distinct : IsTrue (is_clause old.vars one.lits)
   pub lits : one.lits ≡ block_of old.trail.entries (lit_of (ending_of begun))
   pub blocks : IsAtFound old begun → OfLengths old begun (λ length. (decisions : List Lit) × IsBlock length (clauses_of old) one.lits decisions (true_set length old.trail.entries))
 

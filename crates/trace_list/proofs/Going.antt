@@ -3,6 +3,7 @@ use Rattle.std.proofs.Common.{◌≡◌, ℕ, suc, ◌+◌, ◌-◌, ◌^◌, �
 use Rattle.std.specs.Prelude.{Option, Some, None}
 use Rattle.std.specs.List.{filter}
 use Rattle.std.proofs.lemmas.List.{map-append, append-nil}
+use Rattle.tel_base.specs.Literals.{negations}
 use Rattle.tel_base.proofs.Members.{In, In-append_left}
 use Rattle.tel_rule.specs.Ground.{Ground, IsGround}
 use Rattle.tel_semantics.specs.Equilibrium.{list_of}
@@ -13,7 +14,7 @@ use Rattle.clause_store.specs.declared.store.ClauseId.{ClauseId}
 use Rattle.clause_store.specs.declared.store.ClauseKind.{ClauseKind}
 use Rattle.clause_store.specs.declared.store.ClauseKind.TheVariants as kinds
 use Rattle.clause_store.specs.Held.{is_clause}
-use Rattle.clause_store.specs.Closure.{Clause}
+use Rattle.clause_store.specs.Closure.{Clause, Conflict}
 use Rattle.clause_store.proofs.Counting.{at_most_left}
 use Rattle.lit_trail.specs.Unassigned.{visible_below}
 use Rattle.formula_unfold.specs.Nodes.{counts_of}
@@ -27,6 +28,8 @@ use Rattle.search_laws.specs.Needed.{Needed}
 use Rattle.search_laws.specs.Founded.{true_set}
 use Rattle.search_laws.specs.Runs.{Run, adds, blocks}
 use Rattle.search_laws.proofs.Listing.{found_finds}
+use Rattle.search_log.specs.Held.{Came}
+use Rattle.search_log.specs.Held as came
 use Rattle.cdcl_search.specs.Searches as searches
 use Rattle.cdcl_search.specs.Searches.{Begun, clauses_of, ending_of}
 use Rattle.cdcl_search.specs.declared.steps.Step.{Step}
@@ -41,7 +44,7 @@ use Rattle.trace_list.specs.declared.stages.Next.TheVariants as nexts
 use Rattle.trace_list.specs.Reading.{trace_of}
 use Rattle.trace_list.specs.Lengths.{HasModules, HasLength}
 use Rattle.trace_list.specs.Listing.{View, Adds, nothing, counting, blocking, AddsSome, IsWithin, left_of, begun_as, OnFound, Fits, Stands, IsListing, OnEnded, IsFront, GoesOn, StaysEnded, stage_of, ListedIsFront, ListedIsSmall}
-use Rattle.trace_list.specs.Seeking.{left, OnSeeking, Keeps, Seeks, come, Tells}
+use Rattle.trace_list.specs.Seeking.{left, OnSeeking, Keeps, Seeks, come, after_step, Tells}
 use Rattle.trace_list.proofs.Models.{same_trace}
 use Rattle.trace_list.proofs.Orders.{run_first, first_more, first_listed, closed_listed}
 use Rattle.trace_list.proofs.Extending.{run_some, modules_stay}
@@ -65,6 +68,10 @@ adds_none old new same = (0, nothing new 0 same refl)
 not_block : (old new : searches.View) (one : Kept) → IsLearntOne old new one ⊎ IsLoopOne old new one → one.kind ≡ kinds.Block → ⊥
 not_block old new one came is =
     ⊎_elim (λ (learnt : IsLearntOne old new one). let e : kinds.Learnt ≡ kinds.Block = sym learnt.kind ∙ is in cc) (λ (loop : IsLoopOne old new one). let e : kinds.Loop ≡ kinds.Block = sym loop.kind ∙ is in cc) came
+
+learnt_conflicts : (old new : searches.View) (one : Kept) → IsLearntOne old new one ⊎ IsLoopOne old new one → one.kind ≡ kinds.Learnt → Conflict (clauses_of old) (negations one.lits)
+learnt_conflicts old new one came is =
+    ⊎_elim (λ (learnt : IsLearntOne old new one). learnt.follows) (λ (loop : IsLoopOne old new one). absurd (let e : kinds.Loop ≡ kinds.Learnt = sym loop.kind ∙ is in cc)) came
 
 module _ (program : Ground) (n : ℕ) (ground : IsGround program) where
   -- the modules of the program are those of the search
@@ -168,7 +175,7 @@ fits_at : (listing : View) (search : searches.View) (stage : Stage) → listing.
 fits_at listing search stage is fits = subst (λ (s : Stage). OnFound s (0 < search.trail.level)) is fits.level
 
 -- of which length the search is
-at_begun : (listing : View) (search : searches.View) (fits : Fits listing search) (P : Begun → Type 0) → AtLength search.begun P → P (begun_as listing.space listing.n fits.counted)
+pub at_begun : (listing : View) (search : searches.View) (fits : Fits listing search) (P : Begun → Type 0) → AtLength search.begun P → P (begun_as listing.space listing.n fits.counted)
 at_begun listing search fits P at = subst (λ (o : Option Begun). AtLength o P) fits.begun at
 
 -- the traces with that of the trail are those of the sets with that of the walk
@@ -230,6 +237,7 @@ blocked_at program start old before after id traces stage same vars begun at gro
         run = blocks after.kept (is.sets ++ S ∷ []) before.kept b.one is.sets block.0 S b.kept refl is.length.run b.length b.kind block.1;
       };
       added = blocking after.kept before.kept b.one is.fits.counted b.kept is.added b.kind;
+      came = came.blocking after.kept before.kept b.one (is.sets ++ S ∷ []) is.sets block.0 S is.fits.counted b.kept refl is.came b.kind block.1;
       budget = is.budget;
       few = few_blocked before after b.one is.fits.counted vars b.kept is.few;
       stands = with_found program n before old.space is.sets traces ground some is.counts stands.1;
@@ -280,13 +288,6 @@ stays_then old mid new before between after first second =
 
 -- ---- a step
 
--- where a listing stands behind a step of the search
-abbrev pub after_step : Step → Stage
-after_step (steps.Added id) = stages.Seeking
-after_step steps.Found = stages.Found
-after_step steps.Closed = stages.Complete
-after_step steps.Spent = stages.Spent
-
 pub record Stepped (old : View) (before : searches.View) (new : View) (after : searches.View) : Type 0 where
   pub fits : Fits new after
   pub adds : AddsSome before.kept after.kept
@@ -311,6 +312,7 @@ listing_step program start old before after step traces stage same vars at groun
         sets = is.sets;
         length = length_one program n ground before after begun id is.sets refl same vars d.0 is.length;
         added = counting after.kept before.kept d.0.one (c + 1) c d.0.kept (omega arith) is.added (not_block before after d.0.one d.0.came) d.0.free;
+        came = came.counting after.kept before.kept d.0.one is.sets (c + 1) c d.0.kept (omega arith) is.came (not_block before after d.0.one d.0.came) (record { cut = d.2 (module_of program) of; free = d.0.free }) (learnt_conflicts before after d.0.one d.0.came);
         budget = within_more old.conflicts c d.1;
         few = few_more before after begun id c vars d.0 is.few;
         stands = stands;
@@ -322,6 +324,7 @@ listing_step program start old before after step traces stage same vars at groun
         sets = is.sets;
         length = length_same program n ground before after is.sets same vars d.0.kept is.length;
         added = subst (λ (held : List Kept). Adds start held c) (sym d.0.kept) is.added;
+        came = subst (λ (held : List Kept). Came (lengths n) start held is.sets c) (sym d.0.kept) is.came;
         budget = is.budget;
         few = few_same before after c vars d.0.kept is.few;
         stands = (d.2, ap (λ (ts : List (List (List ℕ))). ts ++ trace_of after.trail.entries old.space.counts n ∷ []) stands);
@@ -335,9 +338,10 @@ listing_step program start old before after step traces stage same vars at groun
             sets = is.sets;
             length = length_same program n ground before after is.sets same vars d.0.kept is.length;
             added = subst (λ (held : List Kept). Adds start held c) (sym d.0.kept) is.added;
+            came = subst (λ (held : List Kept). Came (lengths n) start held is.sets c) (sym d.0.kept) is.came;
             budget = is.budget;
             few = few_same before after c vars d.0.kept is.few;
-            stands = (stands, closed_listed program n ground some before.kept is.sets is.length.run clash ∙ stands);
+            stands = (stands, closed_listed program n ground some before.kept is.sets is.length.run clash ∙ stands, subst (λ (held : List Kept). IsClosedWalk (lits_of held) (lengths n).ending) (sym d.0.kept) clash);
           }
       | steps.Spent ↦ λ d.
           let more = subst (λ (held : List Kept). Adds start held c) (sym d.0.kept) is.added in
@@ -349,6 +353,7 @@ listing_step program start old before after step traces stage same vars at groun
             sets = is.sets;
             length = length_same program n ground before after is.sets same vars d.0.kept is.length;
             added = more;
+            came = subst (λ (held : List Kept). Came (lengths n) start held is.sets c) (sym d.0.kept) is.came;
             budget = is.budget;
             few = few;
             stands = (stands, record { counted = c; budget = used_up old.conflicts c d.1 is.budget; added = more; needed = subst (λ (held : List Kept). Needed (lengths n) (lits_of held)) (sym d.0.kept) (d.2 (module_of program) of); few = few_counted after c few });
@@ -454,6 +459,7 @@ begins_listing old new space n conflicts within same vars kept begun program cou
     run = subst (λ (held : List Kept). Run (length_of (module_of program)) n held []) (sym kept) has.run;
   };
   added = nothing new.kept 0 kept refl;
+  came = came.nothing new.kept [] 0 kept refl refl;
   budget = (elim conflicts as (λ (o : Option ℕ). IsWithin o 0) [ None ↦ tt | Some budget ↦ omega arith ]);
   few = few_at_first new;
   stands = refl;

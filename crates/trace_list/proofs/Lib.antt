@@ -6,3 +6,4 @@ pub mod Orders
 pub mod Extending
 pub mod Falling
 pub mod Going
+pub mod Logging

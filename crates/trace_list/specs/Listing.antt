@@ -12,12 +12,14 @@ use Rattle.clause_store.specs.Counts.{left_over}
 use Rattle.formula_unfold.specs.Nodes.{counts_of}
 use Rattle.step_module.specs.Modules.{module_of}
 use Rattle.stable_models.specs.Values.{read_trace}
+use Rattle.search_laws.specs.Walks.{IsClosedWalk}
 use Rattle.search_laws.specs.Lengths.{length_of}
 use Rattle.search_laws.specs.Origins.{Kept, lits_of}
 use Rattle.search_laws.specs.Needed.{Needed}
 use Rattle.cdcl_search.specs.Searches as searches
 use Rattle.cdcl_search.specs.Searches.{Begun, clauses_of}
 use Rattle.cdcl_search.specs.Steps.{IsAtFound}
+use Rattle.search_log.specs.Held.{Came}
 use Rattle.trace_list.specs.declared.stages.Stage.{Stage}
 use Rattle.trace_list.specs.declared.stages.Stage.TheVariants as stages
 use Rattle.trace_list.specs.declared.stages.Next.{Next}
@@ -89,12 +91,12 @@ pub record IsSpent (program : Ground) (n : ℕ) (start : List Kept) (conflicts :
   pub few : counted < 3 ^ search.vars
 
 -- these are the traces of the sets that were found and blocked, and behind them that of the trail where it was found and isn't blocked yet; where the
--- walk was closed, they are all
+-- walk is closed, they are all
 abbrev pub Stands : Ground → ℕ → List Kept → View → Stage → searches.View → ℕ → List Set → List (List (List ℕ)) → Type 0
 Stands program n start listing stages.Seeking search counted sets traces = map (read_trace program n) sets ≡ traces
 Stands program n start listing stages.Found search counted sets traces =
     IsAtFound search (begun_as listing.space listing.n counted) × (map (read_trace program n) sets ++ trace_of search.trail.entries listing.space.counts listing.n ∷ [] ≡ traces)
-Stands program n start listing stages.Complete search counted sets traces = (map (read_trace program n) sets ≡ traces) × (list_of program n ≡ traces)
+Stands program n start listing stages.Complete search counted sets traces = (map (read_trace program n) sets ≡ traces) × (list_of program n ≡ traces) × IsClosedWalk (clauses_of search) (length_of (module_of program) n).ending
 Stands program n start listing stages.Spent search counted sets traces = (map (read_trace program n) sets ≡ traces) × IsSpent program n start listing.conflicts search
 
 -- the listing of the length n of the program over a search, which held the clauses `start` when it began, has come to these traces
@@ -105,6 +107,7 @@ pub record IsListing (program : Ground) (n : ℕ) (start : List Kept) (listing :
   pub sets : List Set
   pub length : HasLength program n search sets
   pub added : Adds start search.kept fits.counted
+  pub came : Came (length_of (module_of program) n) start search.kept sets fits.counted
   pub budget : IsWithin listing.conflicts fits.counted
   pub few : fits.counted + left_of search ≤ 3 ^ search.vars
   pub stands : Stands program n start listing listing.stage search fits.counted sets traces

@@ -3,6 +3,8 @@ use Rattle.std.specs.Prelude.{◌≡◌, ℕ, List, [], ◌∷◌, ◌++◌}
 use Rattle.tel_rule.specs.Ground.{Ground, IsGround}
 use Rattle.search_laws.specs.Origins.{Kept}
 use Rattle.cdcl_search.specs.Searches as searches
+use Rattle.cdcl_search.specs.declared.steps.Step.{Step}
+use Rattle.cdcl_search.specs.declared.steps.Step.TheVariants as steps
 use Rattle.trace_list.specs.declared.stages.Stage.{Stage}
 use Rattle.trace_list.specs.declared.stages.Stage.TheVariants as stages
 use Rattle.trace_list.specs.declared.stages.Next.{Next}
@@ -16,6 +18,13 @@ left stages.Found = stages.Seeking
 left stages.Seeking = stages.Seeking
 left stages.Complete = stages.Complete
 left stages.Spent = stages.Spent
+
+-- where it stands behind a step of the search
+abbrev pub after_step : Step → Stage
+after_step (steps.Added id) = stages.Seeking
+after_step steps.Found = stages.Found
+after_step steps.Closed = stages.Complete
+after_step steps.Spent = stages.Spent
 
 -- what holds where the next trace is still to be found
 abbrev pub OnSeeking : Stage → Type 0 → Type 0

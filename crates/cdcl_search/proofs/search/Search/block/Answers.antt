@@ -72,6 +72,7 @@ returns-clause-blocked g c =
       kept = kept_more i.store.clauses i.lengths.items c.hold_false.new.store.clauses c.push_length.new.lengths.items (record { kind = kinds.Block; lits = c.as_slice.result.now }) c.begun.inside.n begun.n c.self.invariant.each hold.added lengths (ap (λ (b : Begun). b.n) c.begun.view_is);
       length = refl;
       kind = refl;
+      distinct = subst (λ (ls : List Lit). IsTrue (is_clause i.trail.vars ls)) (sym lits) (block_false i.trail (lit_of (ending_of begun)) trail.ordered trail.levels way.ended.holds_there).0;
       lits = lits;
       blocks = blocks_found old begun c.as_slice.result.now way (subst (λ (cs : List Clause). ReasonsHold cs i.trail.entries) (sym clauses) c.self.invariant.ready.sound.reasons) trail.levels trail.ordered lits;
     } in

@@ -1,6 +1,7 @@
 use Rattle.std.proofs.Common.{◌≡◌, refl, sym, ap, ◌∙◌, inr}
 use Rattle.trace_list.specs.Listing.{View}
 use Rattle.trace_list.proofs.Going.{adds_none, some_then, seeks_none, seeks_then, stays_there, stays_then, not_ended}
+use Rattle.trace_list.proofs.Logging.{joins_seeking, whole_none, whole_then, front_behind}
 use Rattle.trace_list.proofs.listing.Listing.seek.Goals as goal
 
 pub seeking-init : goal.seeking-init
@@ -11,6 +12,8 @@ seeking-init g c = (
   seeks_none c.args.self.now c.args.search.now c.requires.left,
   adds_none c.args.search.now.kept c.args.search.now.kept refl,
   refl,
+  refl,
+  whole_none c.args.self.now c.args.search.now _,
   refl,
 )
 
@@ -23,7 +26,7 @@ seeking-preserved g c =
     let between = c.seeking.search in
     let after = c.step.new.search in
     let so_far = c.seeking.invariant in
-    let step = c.in_ok-step.ensures in
+    let step = c.in-Ok.ensures in
     let stage = ap (λ (v : View). v.stage) (sym c.self.view_is) ∙ c.in-Seeking.is in (
       step.fits,
       record { space = step.same.space ∙ so_far.1.space; n = step.same.n ∙ so_far.1.n; conflicts = step.same.conflicts ∙ so_far.1.conflicts },
@@ -32,4 +35,12 @@ seeking-preserved g c =
       some_then before.kept between.kept after.kept so_far.4 step.adds,
       step.ground ∙ so_far.5,
       step.vars ∙ so_far.6,
+      whole_then old mid new before between after _ _ _ (joins_seeking old mid before between stage so_far.2) so_far.7 step.logs,
+      step.faults ∙ so_far.8,
     )
+
+pub returns-in-Err-clause-front : goal.returns-in-Err-clause-front
+returns-in-Err-clause-front g c =
+    let so_far = c.seeking.invariant in
+    let stage = ap (λ (v : View). v.stage) (sym c.self.view_is) ∙ c.in-Seeking.is in
+    front_behind c.args.self.now c.seeking.self c.args.search.now c.seeking.search _ _ _ (joins_seeking c.args.self.now c.seeking.self c.args.search.now c.seeking.search stage so_far.2) so_far.7 c.in-Err.ensures.front

@@ -1,37 +1,70 @@
-use Rattle.std.proofs.Common.{◌≡◌, sym, ap, subst, ◌∙◌}
-use Rattle.trace_list.specs.declared.stages.Stage.{Stage}
+use Rattle.std.proofs.Common.{◌≡◌, refl, sym, ap, subst, ◌∙◌}
+use Rattle.std.specs.Prelude.{Ok, Err}
 use Rattle.trace_list.specs.Listing.{View, Fits}
-use Rattle.trace_list.proofs.Going.{Stepped, after_step, stepped}
-use Rattle.trace_list.proofs.listing.Listing.step.Given.{Over}
-use Rattle.trace_list.proofs.listing.Listing.step.Goals.{in-Added, in-Found, in-Closed, in-Spent}
+use Rattle.trace_list.specs.Seeking.{after_step}
+use Rattle.trace_list.proofs.Logging.{front_none, step_last, stepped_at, step_logged, step_faults}
 use Rattle.trace_list.proofs.listing.Listing.step.Goals as goal
 
-whole : (g : Over) (c : goal.After-self-1 g) → Stepped c.args.self.now c.args.search.now (record { space = c.self.inside.space; n = c.self.inside.n; conflicts = c.self.inside.conflicts; stage = c.match-branch-2.self }) c.next.new.self
-whole g c =
-    let i = c.self.inside in
-    let search = c.args.search.now in
-    let next = c.in_ok-next.ensures in
-    let step = c.in_ok-next.field-0 in
-    let old : View = record { space = i.space; n = i.n; conflicts = i.conflicts; stage = i.stage } in
-    let fits = subst (λ (v : View). Fits v search) (sym c.self.view_is) c.requires.fits in
-    let seeking = ap (λ (v : View). v.stage) c.self.view_is ∙ c.requires.seeking in
-    let is : after_step step ≡ c.match-branch-2.self = elim c.match-branch-2.branch [
-      | in-Added w ↦ ap after_step w.in-Added.is ∙ sym w.self-is
-      | in-Found w ↦ ap after_step w.in-Found.is ∙ sym w.self-is
-      | in-Closed w ↦ ap after_step w.in-Closed.is ∙ sym w.self-is
-      | in-Spent w ↦ ap after_step w.in-Spent.is ∙ sym w.self-is
-    ] in
-    subst (λ (v : View). Stepped v search (record { space = i.space; n = i.n; conflicts = i.conflicts; stage = c.match-branch-2.self }) c.next.new.self) c.self.view_is
-    (subst (λ (s : Stage). Stepped old search (record { space = i.space; n = i.n; conflicts = i.conflicts; stage = s }) c.next.new.self) is (stepped old search c.next.new.self step fits seeking next.ground next.vars next.step))
+pub returns-in-Err-clause-front : goal.returns-in-Err-clause-front
+returns-in-Err-clause-front g c = front_none c.args.self.now c.args.search.now _
 
-pub returns-clause-fits : goal.returns-clause-fits
-returns-clause-fits g c = (whole g c).fits
+pub write_step-requires : goal.write_step-requires
+write_step-requires g c =
+    let next = c.in-Ok.ensures in
+    step_last c.args.self.now c.args.search.now c.next.new.self c.in-Ok.step c.self.inside.conflicts (ap (λ (v : View). v.conflicts) c.self.view_is) c.requires.fits next.ground next.vars next.step
 
-pub returns-clause-seeks : goal.returns-clause-seeks
-returns-clause-seeks g c = (whole g c).seeks
+pub returns-in-Ok-write_step-clause-seeks : goal.returns-in-Ok-write_step-clause-seeks
+returns-in-Ok-write_step-clause-seeks g c =
+    let i = c.self-2.inside in
+    let now : View = record { space = i.space; n = i.n; conflicts = i.conflicts; stage = i.stage } in
+    let next = c.in-Ok.ensures in
+    (stepped_at c.args.self.now now c.args.search.now c.next.new.self c.in-Ok.step c.stage_after-self-inside.result c.self.inside.conflicts (c.self-2.view_is ∙ c.in-Ok-write_step.ensures.same) c.stage_after-self-inside.ensures (ap (λ (v : View). v.conflicts) c.self.view_is) c.requires.fits c.requires.seeking next.ground next.vars next.step).seeks
 
-pub returns-clause-adds : goal.returns-clause-adds
-returns-clause-adds g c = (whole g c).adds
+pub returns-in-Ok-write_step-clause-adds : goal.returns-in-Ok-write_step-clause-adds
+returns-in-Ok-write_step-clause-adds g c =
+    let i = c.self-2.inside in
+    let now : View = record { space = i.space; n = i.n; conflicts = i.conflicts; stage = i.stage } in
+    let next = c.in-Ok.ensures in
+    (stepped_at c.args.self.now now c.args.search.now c.next.new.self c.in-Ok.step c.stage_after-self-inside.result c.self.inside.conflicts (c.self-2.view_is ∙ c.in-Ok-write_step.ensures.same) c.stage_after-self-inside.ensures (ap (λ (v : View). v.conflicts) c.self.view_is) c.requires.fits c.requires.seeking next.ground next.vars next.step).adds
 
-pub returns-clause-falls : goal.returns-clause-falls
-returns-clause-falls g c = (whole g c).falls
+pub returns-in-Ok-write_step-clause-falls : goal.returns-in-Ok-write_step-clause-falls
+returns-in-Ok-write_step-clause-falls g c =
+    let i = c.self-2.inside in
+    let now : View = record { space = i.space; n = i.n; conflicts = i.conflicts; stage = i.stage } in
+    let next = c.in-Ok.ensures in
+    (stepped_at c.args.self.now now c.args.search.now c.next.new.self c.in-Ok.step c.stage_after-self-inside.result c.self.inside.conflicts (c.self-2.view_is ∙ c.in-Ok-write_step.ensures.same) c.stage_after-self-inside.ensures (ap (λ (v : View). v.conflicts) c.self.view_is) c.requires.fits c.requires.seeking next.ground next.vars next.step).falls
+
+pub returns-in-Ok-write_step-clause-fits : goal.returns-in-Ok-write_step-clause-fits
+returns-in-Ok-write_step-clause-fits g c =
+    let i = c.self-2.inside in
+    let now : View = record { space = i.space; n = i.n; conflicts = i.conflicts; stage = i.stage } in
+    let next = c.in-Ok.ensures in
+    (stepped_at c.args.self.now now c.args.search.now c.next.new.self c.in-Ok.step c.stage_after-self-inside.result c.self.inside.conflicts (c.self-2.view_is ∙ c.in-Ok-write_step.ensures.same) c.stage_after-self-inside.ensures (ap (λ (v : View). v.conflicts) c.self.view_is) c.requires.fits c.requires.seeking next.ground next.vars next.step).fits
+
+pub returns-in-Ok-write_step-clause-logs : goal.returns-in-Ok-write_step-clause-logs
+returns-in-Ok-write_step-clause-logs g c =
+    let i = c.self-2.inside in
+    let now : View = record { space = i.space; n = i.n; conflicts = i.conflicts; stage = i.stage } in
+    let next = c.in-Ok.ensures in
+    let writes = step_logged (Ok c.in-Ok-write_step.field-0) c.args.self.now now c.args.search.now c.next.new.self c.in-Ok.step c.stage_after-self-inside.result c.self.inside.conflicts _ _ _ _ (c.self-2.view_is ∙ c.in-Ok-write_step.ensures.same) c.stage_after-self-inside.ensures (ap (λ (v : View). v.conflicts) c.self.view_is) c.requires.fits c.requires.seeking next.ground next.vars next.step c.in-Ok-write_step.ensures.writes in
+    (writes.log, writes.logs, writes.text.ok)
+
+pub returns-in-Err-write_step-clause-front : goal.returns-in-Err-write_step-clause-front
+returns-in-Err-write_step-clause-front g c =
+    let next = c.in-Ok.ensures in
+    let old = c.args.self.now in
+    let new : View = record old { stage = after_step c.in-Ok.step } in
+    let writes = step_logged (Err c.in-Err-write_step.fault) old old c.args.search.now c.next.new.self c.in-Ok.step (after_step c.in-Ok.step) c.self.inside.conflicts _ _ _ _ refl refl (ap (λ (v : View). v.conflicts) c.self.view_is) c.requires.fits c.requires.seeking next.ground next.vars next.step c.in-Err-write_step.ensures.writes in
+    (new, c.next.new.self, writes.log, writes.logs, writes.text.err)
+
+pub returns-in-Ok-write_step-clause-faults : goal.returns-in-Ok-write_step-clause-faults
+returns-in-Ok-write_step-clause-faults g c =
+    let next = c.in-Ok.ensures in
+    let last = step_last c.args.self.now c.args.search.now c.next.new.self c.in-Ok.step c.self.inside.conflicts (ap (λ (v : View). v.conflicts) c.self.view_is) c.requires.fits next.ground next.vars next.step in
+    step_faults (Ok c.in-Ok-write_step.field-0) c.in-Ok.step c.args.self.now.n c.next.new.self _ _ _ _ last c.in-Ok-write_step.ensures.writes
+
+pub returns-in-Err-write_step-clause-faults : goal.returns-in-Err-write_step-clause-faults
+returns-in-Err-write_step-clause-faults g c =
+    let next = c.in-Ok.ensures in
+    let last = step_last c.args.self.now c.args.search.now c.next.new.self c.in-Ok.step c.self.inside.conflicts (ap (λ (v : View). v.conflicts) c.self.view_is) c.requires.fits next.ground next.vars next.step in
+    step_faults (Err c.in-Err-write_step.fault) c.in-Ok.step c.args.self.now.n c.next.new.self _ _ _ _ last c.in-Err-write_step.ensures.writes
