@@ -1,6 +1,7 @@
 use Rattle.completion.proofs.Orders.{into_order, from_order}
 use Rattle.search_log.proofs.SameClauses.{alike_self, up_alike, conflict_alike, absorbed_alike}
 use Rattle.search_log.proofs.SameWalks.{needed_alike, cut_alike, block_alike}
+use Rattle.search_log.proofs.SameLogs.{length_alike}
 use Rattle.search_log.proofs.laws.logs_are_alike.Goals as goal
 
 pub returns-clause-order : goal.returns-clause-order
@@ -17,3 +18,6 @@ returns-clause-cut c = λ length clauses others clause other alike same. (needed
 
 pub returns-clause-block : goal.returns-clause-block
 returns-clause-block c = λ length clauses others clause other decisions set alike same. block_alike clauses others alike length clause other decisions set same
+
+pub returns-clause-length : goal.returns-clause-length
+returns-clause-length c = length_alike
