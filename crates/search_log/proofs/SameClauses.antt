@@ -5,7 +5,9 @@ use Rattle.tel_base.specs.declared.literals.Lit.{Lit}
 use Rattle.tel_base.specs.Literals.{negate, negations}
 use Rattle.tel_base.proofs.Members.{In, In-list_all, list_all-from_In, In-map, In-map_from, In-filter, In-filter_from}
 use Rattle.clause_store.specs.Closure.{Clause, Lits, same_lit, others, refutes, keeps_unit, keeps_units, Up, Conflict, Absorbed}
+use Rattle.normal_program.specs.ModuleClauses.{in_order}
 use Rattle.completion.proofs.ShapeValues.{same_bits}
+use Rattle.completion.proofs.Orders.{into_order, from_order}
 use Rattle.search_log.specs.Alike.{IsAlike, AreAlike}
 
 -- ---- alike
@@ -15,6 +17,9 @@ alike_self clause = record { into = λ lit i. i; from = λ lit i. i }
 
 pub alike_back : (clause other : Clause) → IsAlike clause other → IsAlike other clause
 alike_back clause other alike = record { into = alike.from; from = alike.into }
+
+pub order_alike : (clause : Clause) → IsAlike (in_order clause) clause
+order_alike clause = record { into = λ lit i. from_order lit clause i; from = λ lit i. into_order lit clause i }
 
 pub all_alike_self : (clauses : List Clause) → AreAlike clauses clauses
 all_alike_self [] = tt

@@ -1,11 +1,10 @@
-use Rattle.completion.proofs.Orders.{into_order, from_order}
-use Rattle.search_log.proofs.SameClauses.{alike_self, up_alike, conflict_alike, absorbed_alike}
+use Rattle.search_log.proofs.SameClauses.{alike_self, order_alike, up_alike, conflict_alike, absorbed_alike}
 use Rattle.search_log.proofs.SameWalks.{needed_alike, cut_alike, block_alike}
 use Rattle.search_log.proofs.SameLogs.{length_alike}
 use Rattle.search_log.proofs.laws.logs_are_alike.Goals as goal
 
 pub returns-clause-order : goal.returns-clause-order
-returns-clause-order c = λ clause. record { into = λ lit i. from_order lit clause i; from = λ lit i. into_order lit clause i }
+returns-clause-order c = order_alike
 
 pub returns-clause-derive : goal.returns-clause-derive
 returns-clause-derive c = λ clauses others alike start. (up_alike clauses others alike start start (alike_self start), conflict_alike clauses others alike start start (alike_self start))
