@@ -1,5 +1,5 @@
 -- The lines of held clauses: they have the clauses that are held, and are those of the search.
-use Rattle.std.proofs.Common.{◌≡◌, ℕ, suc, ◌+◌, ◌<◌, ◌≤◌, List, [], ◌∷◌, ◌++◌, length, refl, sym, ap, subst, ◌∙◌, arith}
+use Rattle.std.proofs.Common.{◌≡◌, ℕ, suc, ◌+◌, ◌<◌, ◌≤◌, List, [], ◌∷◌, ◌++◌, length, sym, ap, subst, ◌∙◌, arith}
 use Rattle.std.specs.Prelude.{IsTrue}
 use Rattle.std.proofs.lemmas.List.{append-nil, append_assoc, map-append, length-append, same_from_push}
 use Rattle.std.proofs.lemmas.Grind.{flat_map-append}
@@ -26,6 +26,7 @@ use Rattle.search_log.proofs.WrittenLines.{order_written, loop_written}
 
 -- ---- the clauses of the lines
 
+-- a line has the clause that it is of, in order
 line_has : (ground : Layers) (one : Kept) (line : Line) → IsLineOf ground one line → clauses_in (line ∷ []) ≡ in_order one.lits ∷ []
 line_has ground one (lines.Length n) is = absurd is
 line_has ground one (lines.Module clause) is = absurd is
@@ -34,6 +35,7 @@ line_has ground one (lines.Learnt clause) is = ap (λ (c : Clause). c ∷ []) is
 line_has ground one (lines.Block clause) is = ap (λ (c : Clause). c ∷ []) is.1
 line_has ground one (lines.End n) is = absurd is
 
+-- the lines have the clauses that are held
 pub lines_alike : (vars : ℕ) (ground : Layers) (start held : List Kept) (log : List Line) → AreLines vars ground start held log → AreAlike (lits_of held) (lits_of start ++ clauses_in log)
 lines_alike vars ground start _ _ (AreLines.nothing held log same empty) =
     let left : lits_of held ≡ lits_of start = ap lits_of same in
@@ -57,15 +59,15 @@ lines_grow vars ground start _ _ (AreLines.more held before one log earlier line
     let up = lines_grow vars ground start before earlier are in
     omega (arith, counts, up)
 
-came_grow : (length_at : Length) (start held : List Kept) (sets : List Set) (count : ℕ) → Came length_at start held sets count → length start ≤ length held
-came_grow length_at start _ _ _ (Came.nothing held sets count same none zero) = let counts : length held ≡ length start = ap length same in omega (arith, counts)
-came_grow length_at start _ _ _ (Came.counting held before one sets count less whole more came other counted clash) =
+came_grow : (this : Length) (start held : List Kept) (sets : List Set) (count : ℕ) → Came this start held sets count → length start ≤ length held
+came_grow this start _ _ _ (Came.nothing held sets count same none at_zero) = let counts : length held ≡ length start = ap length same in omega (arith, counts)
+came_grow this start _ _ _ (Came.counting held before one sets count less whole more came other counted clash) =
     let counts : length held ≡ length before + 1 = ap length whole ∙ length-append before (one ∷ []) in
-    let up = came_grow length_at start before sets less came in
+    let up = came_grow this start before sets less came in
     omega (arith, counts, up)
-came_grow length_at start _ _ _ (Came.blocking held before one sets past decisions set count whole more came kind block) =
+came_grow this start _ _ _ (Came.blocking held before one sets past decisions set count whole more came kind block) =
     let counts : length held ≡ length before + 1 = ap length whole ∙ length-append before (one ∷ []) in
-    let up = came_grow length_at start before past count came in
+    let up = came_grow this start before past count came in
     omega (arith, counts, up)
 
 no_lines : (vars : ℕ) (ground : Layers) (start held : List Kept) (log : List Line) → AreLines vars ground start held log → held ≡ start → log ≡ []
@@ -99,6 +101,7 @@ last_line vars ground start _ before one _ (AreLines.more held first last log ea
       is = subst (λ (kept : Kept). IsLineOf ground kept line) same.1 is;
     }
 
+-- a loop clause is one in any order of its literals
 loop_alike : (ground : Layers) (U : Set) (first : ℕ) (clause other : Clause) → IsAlike clause other → IsLoopClause ground U first clause → IsLoopClause ground U first other
 loop_alike ground U first clause other same loop = record {
   heads = loop.heads;
@@ -115,6 +118,7 @@ module _ (length : Length) (bound : ℕ) (start : List Kept) (fits : bound ≤ g
   same_of : (one : Kept) (clause : Clause) → clause ≡ in_order one.lits → IsAlike one.lits clause
   same_of one clause e = subst (λ (c : Clause). IsAlike one.lits c) (sym e) (alike_back (in_order one.lits) one.lits (order_alike one.lits))
 
+  -- a counted clause makes one line of the search more
   counted_line : (before : List Kept) (one : Kept) (log earlier : List Line) (line : Line) (sets : List Set) (count less : ℕ) → log ≡ earlier ++ line ∷ [] → count ≡ suc less → Searched length bound (lits_of start) earlier sets less → AreAlike (lits_of before) (lits_of start ++ clauses_in earlier) → IsTrue (is_clause bound one.lits) → IsLineOf length.ground one line → (one.kind ≡ kinds.Block → ⊥) → IsCounted length (lits_of before) one.lits → (one.kind ≡ kinds.Learnt → Conflict (lits_of before) (negations one.lits)) → Searched length bound (lits_of start) log sets count
   counted_line before one log earlier (lines.Loop atom set clause) sets count less whole more searched alike distinct is other counted clash =
       let same = same_of one clause is.1 in
@@ -133,6 +137,7 @@ module _ (length : Length) (bound : ℕ) (start : List Kept) (fits : bound ≤ g
   counted_line before one log earlier (lines.Module clause) sets count less whole more searched alike distinct is other counted clash = absurd is
   counted_line before one log earlier (lines.End n) sets count less whole more searched alike distinct is other counted clash = absurd is
 
+  -- and so does a blocking one
   block_line : (before : List Kept) (one : Kept) (log earlier : List Line) (line : Line) (sets past : List Set) (decisions : List Lit) (set : Set) (count : ℕ) → log ≡ earlier ++ line ∷ [] → sets ≡ past ++ set ∷ [] → Searched length bound (lits_of start) earlier past count → AreAlike (lits_of before) (lits_of start ++ clauses_in earlier) → IsTrue (is_clause bound one.lits) → IsLineOf length.ground one line → one.kind ≡ kinds.Block → IsBlock length (lits_of before) one.lits decisions set → Searched length bound (lits_of start) log sets count
   block_line before one log earlier (lines.Block clause) sets past decisions set count whole more searched alike distinct is kind block =
       Searched.block log earlier clause sets past decisions set count whole more searched
@@ -144,8 +149,9 @@ module _ (length : Length) (bound : ℕ) (start : List Kept) (fits : bound ≤ g
   block_line before one log earlier (lines.Module clause) sets past decisions set count whole more searched alike distinct is kind block = absurd is
   block_line before one log earlier (lines.End n) sets past decisions set count whole more searched alike distinct is kind block = absurd is
 
+  -- the clauses that came and their lines, step by step
   pub came_searched : (held : List Kept) (sets : List Set) (count : ℕ) (log : List Line) → Came length start held sets count → AreLines bound length.ground start held log → Searched length bound (lits_of start) log sets count
-  came_searched _ _ _ log (Came.nothing held sets count same none zero) are = Searched.nothing log sets count (no_lines bound length.ground start held log are same) none zero
+  came_searched _ _ _ log (Came.nothing held sets count same none at_zero) are = Searched.nothing log sets count (no_lines bound length.ground start held log are same) none at_zero
   came_searched _ _ _ log (Came.counting held before one sets count less whole more came other counted clash) are =
       let last = last_line bound length.ground start held before one log are whole (came_grow length start before sets less came) in
       counted_line before one log last.earlier last.line sets count less last.whole more (came_searched before sets less last.earlier came last.are) (lines_alike bound length.ground start before last.earlier last.are) last.distinct last.is other counted clash

@@ -1,5 +1,5 @@
 -- Clauses that are alike derive the same, conflict and absorb alike.
-use Rattle.std.proofs.Common.{◌≡◌, Bool, true, not, ◌&&◌, ◌||◌, List, [], ◌∷◌, ◌++◌, refl, ap, subst, ◌∙◌, ◌⊎◌, inl, inr, ⊎_elim}
+use Rattle.std.proofs.Common.{◌≡◌, Bool, true, not, ◌&&◌, ◌||◌, List, [], ◌∷◌, ◌++◌, refl, ap, subst, ◌∙◌, inl, inr, ⊎_elim}
 use Rattle.std.specs.List.{list_all}
 use Rattle.tel_base.specs.declared.literals.Lit.{Lit}
 use Rattle.tel_base.specs.Literals.{negate, negations}
@@ -37,6 +37,7 @@ all_alike_append [] (fellow ∷ fellows) later behind alike rest = absurd alike
 all_alike_append (clause ∷ more) [] later behind alike rest = absurd alike
 all_alike_append (clause ∷ more) (fellow ∷ fellows) later behind alike rest = (alike.0, all_alike_append more fellows later behind alike.1 rest)
 
+-- each clause has its fellow
 fellow_of : (clauses fellows : List Clause) → AreAlike clauses fellows → (clause : Clause) → In clause clauses → (fellow : Clause) × In fellow fellows × IsAlike clause fellow
 fellow_of [] fellows alike clause i = absurd i
 fellow_of (first ∷ more) [] alike clause i = absurd alike
@@ -67,6 +68,7 @@ all_same p clause other alike = same_bits (list_all p clause) (list_all p other)
     on : (xs ys : Clause) → ((lit : Lit) → In lit ys → In lit xs) → list_all p xs ≡ true → list_all p ys ≡ true
     on xs ys sub all = list_all-from_In p ys (λ lit i. In-list_all p lit xs all (sub lit i))
 
+-- the unit rule is kept on one clause where it is on the other
 unit_same : (X : Lits) (clause other : Clause) → IsAlike clause other → keeps_unit X clause ≡ keeps_unit X other
 unit_same X clause other alike =
     all_same (λ (lit : Lit). X lit || not (refutes X (others lit clause))) clause other alike

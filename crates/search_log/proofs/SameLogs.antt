@@ -10,11 +10,12 @@ use Rattle.search_log.specs.ValidLogs.{clauses_in, Searched, nothing, loop, lear
 use Rattle.search_log.proofs.SameClauses.{alike_self, all_alike_self, all_alike_append, conflict_alike}
 use Rattle.search_log.proofs.SameWalks.{counted_alike, block_alike}
 
+-- with more clauses behind them
 behind_alike : (clauses fellows more : List Clause) → AreAlike clauses fellows → AreAlike (clauses ++ more) (fellows ++ more)
 behind_alike clauses fellows more alike = all_alike_append clauses fellows more more alike (all_alike_self more)
 
 searched_alike : (length : Length) (bound : ℕ) (before other : List Clause) → AreAlike before other → (log : List Line) (sets : List Set) (count : ℕ) → Searched length bound before log sets count → Searched length bound other log sets count
-searched_alike length bound before other alike _ _ _ (nothing log sets count empty none zero) = nothing log sets count empty none zero
+searched_alike length bound before other alike _ _ _ (nothing log sets count empty none at_zero) = nothing log sets count empty none at_zero
 searched_alike length bound before other alike _ _ _ (loop log earlier atom set clause sets count less whole more searched written counted is) =
     let old = before ++ clauses_in earlier in
     let new = other ++ clauses_in earlier in

@@ -2,14 +2,13 @@
 use Rattle.std.proofs.Common.{◌≡◌, ℕ, List, [], ◌∷◌, ◌⊎◌, inl, inr, ⊎_elim}
 use Rattle.tel_base.specs.declared.literals.Lit.{Lit}
 use Rattle.tel_base.specs.Literals.{lit_of, negate, negations}
-use Rattle.tel_base.specs.Members.{In}
 use Rattle.clause_store.specs.Closure.{Clause, Up, Conflict}
 use Rattle.normal_program.specs.ModuleClauses.{no_lit}
 use Rattle.normal_program.specs.StableSets.{Set}
 use Rattle.search_laws.specs.Walks.{HasValue, WalksOn, SticksOn, IsTotalWalk, IsStuckWalk}
 use Rattle.search_laws.specs.Lengths.{Length}
-use Rattle.search_laws.specs.Origins.{IsSeen, Finds, IsBlock}
-use Rattle.search_laws.specs.Needed.{IsWalkSet, IsUnstable, Needed, IsNegated, IsCut}
+use Rattle.search_laws.specs.Origins.{IsBlock}
+use Rattle.search_laws.specs.Needed.{IsUnstable, Needed, IsNegated, IsCut}
 use Rattle.search_log.specs.Alike.{IsAlike, AreAlike}
 use Rattle.search_log.specs.ValidLogs.{IsCounted}
 use Rattle.search_log.proofs.SameClauses.{alike_self, alike_back, all_alike_back, negations_alike, up_alike, conflict_alike, absorbed_alike}
@@ -33,6 +32,7 @@ module _ (clauses fellows : List Clause) (alike : AreAlike clauses fellows) wher
   value_back : (start : List Lit) (v : ℕ) → HasValue fellows start v → HasValue clauses start v
   value_back start v value = ⊎_elim (λ y. inl (up_back start (lit_of v) y)) (λ n. inr (up_back start (no_lit v) n)) value
 
+  -- the walk goes the same way
   walks_on : (start : List Lit) (vars : List ℕ) (decisions : List Lit) → WalksOn clauses start vars decisions → WalksOn fellows start vars decisions
   walks_on start [] decisions walk = walk
   walks_on start (v ∷ vars) decisions walk =
@@ -42,6 +42,7 @@ module _ (clauses fellows : List Clause) (alike : AreAlike clauses fellows) wher
       inr ((λ value. p.0 (value_back start v value)), (λ clash. p.1 (conflict_back (no_lit v ∷ start) clash)), walks_on (no_lit v ∷ start) vars decisions p.2))
       walk
 
+  -- and is stuck at the same variable
   sticks_on : (start : List Lit) (vars : List ℕ) (decisions : List Lit) → SticksOn clauses start vars decisions → SticksOn fellows start vars decisions
   sticks_on start [] decisions stuck = stuck
   sticks_on start (v ∷ vars) decisions stuck =

@@ -1,8 +1,8 @@
 -- Lines that have the form of one: of a clause of different variables in order, and of a rising set.
-use Rattle.std.proofs.Common.{◌≡◌, ℕ, zero, suc, ◌+◌, ◌<◌, ◌≤◌, Bool, true, false, not, ◌&&◌, List, [], ◌∷◌, ◌++◌, length, map, refl, sym, ap, subst, ◌∙◌, inl, inr, ⊎_elim, arith}
+use Rattle.std.proofs.Common.{◌≡◌, ℕ, ◌+◌, ◌<◌, ◌≤◌, Bool, true, false, not, ◌&&◌, List, [], ◌∷◌, length, map, refl, sym, ap, subst, ◌∙◌, inl, inr, ⊎_elim, arith}
 use Rattle.std.specs.Prelude.{nat_lt, ◌==◌}
 use Rattle.std.specs.List.{list_all}
-use Rattle.std.proofs.lemmas.Bool.{and_parts, cases_Bool, ltb-true, ltb-false, eqb-true, eq-eqb, false≢true}
+use Rattle.std.proofs.lemmas.Bool.{and_parts, cases_Bool, ltb-true, ltb-false, eq-eqb, false≢true}
 use Rattle.tel_base.specs.declared.literals.Lit.{Lit}
 use Rattle.tel_base.proofs.Members.{In, In-list_all, In-map_from, In-append_cases, any_found, any_from}
 use Rattle.clause_store.specs.Held.{lacks, are_distinct, is_clause}
@@ -13,7 +13,7 @@ use Rattle.completion.proofs.Orders as orders
 use Rattle.completion.proofs.Orders.{in_order_rises, into_order, from_order}
 use Rattle.unfounded_sets.specs.LoopClauses.{IsLoopClause, among, rises}
 use Rattle.proof_log.specs.declared.line.Line.TheVariants as lines
-use Rattle.proof_log.specs.Lines.{greatest, lit_number, Rises, IsClause, IsSet}
+use Rattle.proof_log.specs.Lines.{greatest, lit_number, Rises, IsClause}
 use Rattle.search_log.specs.ValidLogs.{IsWritten}
 
 -- ---- what different variables say
@@ -60,6 +60,7 @@ var_rises lit also less one =
     absurd (omega (arith, less, same)))
     (cases_Bool (nat_lt lit.var also.var))
 
+-- the numbers of literals in order rise, from above a least one
 numbers_rise : (bound low : ℕ) (lits : List Lit) → bound ≤ greatest → orders.Rises lits → ((lit : Lit) → In lit lits → lit.var < bound) → ((lit also : Lit) → In lit lits → In also lits → lit.var ≡ also.var → lit ≡ also) → ((lit : Lit) → In lit lits → low ≤ lit.var) → Rises low (map lit_number lits)
 numbers_rise bound low [] fits rise below one above = tt
 numbers_rise bound low (lit ∷ more) fits rise below one above =
@@ -79,6 +80,7 @@ has_some : {X : Type 0} (x : X) (xs : List X) → In x xs → 0 < length xs
 has_some x [] i = absurd i
 has_some x (y ∷ ys) i = omega arith
 
+-- a clause of different variables has the form of a clause, in order
 order_form : (bound : ℕ) (clause : Clause) → bound ≤ greatest → is_clause bound clause ≡ true → IsClause (in_order clause)
 order_form bound clause fits is =
     let p = and_parts (nat_lt 0 (length clause)) (are_distinct bound clause) is in
@@ -101,6 +103,7 @@ order_written bound clause fits is =
     let below = order_below bound clause is in
     (record { form = form; below = below }, record { form = form; below = below }, record { form = form; below = below })
 
+-- a rising set has the form of one
 set_rises : (bound low : ℕ) (set : List ℕ) → bound ≤ greatest → rises set ≡ true → ((v : ℕ) → In v set → v < bound) → ((v : ℕ) → In v set → low ≤ v) → Rises low (map (λ var. var + 1) set)
 set_rises bound low [] fits rise below above = tt
 set_rises bound low (var ∷ more) fits rise below above =

@@ -1,9 +1,6 @@
 -- The laws of logs.
-use Rattle.std.specs.Prelude.{◌≡◌, ℕ, ◌<◌, ◌≤◌, Bool, List, ◌∷◌, ◌++◌, IsTrue, ◌⊎◌}
-use Rattle.std.specs.List.{list_all}
+use Rattle.std.specs.Prelude.{ℕ, ◌<◌, ◌≤◌, Bool, List, ◌++◌, IsTrue}
 use Rattle.tel_base.specs.declared.literals.Lit.{Lit}
-use Rattle.tel_base.specs.Literals.{negations}
-use Rattle.tel_base.specs.Members.{In}
 use Rattle.clause_store.specs.Held.{is_clause}
 use Rattle.clause_store.specs.Closure.{Clause, Up, Conflict, Absorbed}
 use Rattle.normal_program.specs.Grounds.{is_head}
