@@ -356,7 +356,7 @@ listing_step program start old before after step traces stage same vars at groun
             came = subst (λ (held : List Kept). Came (lengths n) start held is.sets c) (sym d.0.kept) is.came;
             budget = is.budget;
             few = few;
-            stands = (stands, record { counted = c; budget = used_up old.conflicts c d.1 is.budget; added = more; needed = subst (λ (held : List Kept). Needed (lengths n) (lits_of held)) (sym d.0.kept) (d.2 (module_of program) of); few = few_counted after c few });
+            stands = (stands, record { counted = c; budget = used_up old.conflicts c d.1 is.budget; added = more; needed = subst (λ (held : List Kept). Needed (lengths n) (lits_of held)) (sym d.0.kept) (d.2 (module_of program) of); few = few_counted after c few }, refl);
           }
     ]) (at_begun old before is.fits (λ (one : Begun). Steps before after one old.conflicts step) at)
 

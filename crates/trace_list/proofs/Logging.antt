@@ -70,6 +70,11 @@ joins_after old mid is = subst (λ (s : Stage). Joins old s) (sym is) (each old)
     each stages.Complete other n = refl
     each stages.Spent other n = refl
 
+-- a listing that hasn't ended goes on as one at its beginning
+pub joins_open : (old mid : Stage) → old ≡ stages.Seeking → (mid ≡ stages.Seeking) ⊎ (mid ≡ stages.Found) → Joins old mid
+joins_open old mid begins is =
+    subst (λ (s : Stage). Joins s mid) (sym begins) (⊎_elim (λ e. subst (λ (s : Stage). Joins stages.Seeking s) (sym e) (λ other n. refl)) (λ e. subst (λ (s : Stage). Joins stages.Seeking s) (sym e) (λ other n. refl)) is)
+
 pub joins_seeking : (old mid : View) (before between : searches.View) → mid.stage ≡ stages.Seeking → StaysEnded old before mid between → Joins old.stage mid.stage
 joins_seeking old mid before between seeking stays =
     subst (λ (m : Stage). Joins old.stage m) (sym seeking) ((elim (old.stage) as (λ (s : Stage). s ≡ old.stage → OnEnded s ((mid ≡ old) × (between ≡ before)) → Joins s stages.Seeking) [

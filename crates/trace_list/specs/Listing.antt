@@ -97,7 +97,7 @@ Stands program n start listing stages.Seeking search counted sets traces = map (
 Stands program n start listing stages.Found search counted sets traces =
     IsAtFound search (begun_as listing.space listing.n counted) × (map (read_trace program n) sets ++ trace_of search.trail.entries listing.space.counts listing.n ∷ [] ≡ traces)
 Stands program n start listing stages.Complete search counted sets traces = (map (read_trace program n) sets ≡ traces) × (list_of program n ≡ traces) × IsClosedWalk (clauses_of search) (length_of (module_of program) n).ending
-Stands program n start listing stages.Spent search counted sets traces = (map (read_trace program n) sets ≡ traces) × IsSpent program n start listing.conflicts search
+Stands program n start listing stages.Spent search counted sets traces = (map (read_trace program n) sets ≡ traces) × (spent : IsSpent program n start listing.conflicts search) × (spent.counted ≡ counted)
 
 -- the listing of the length n of the program over a search, which held the clauses `start` when it began, has come to these traces
 pub record IsListing (program : Ground) (n : ℕ) (start : List Kept) (listing : View) (search : searches.View) (traces : List (List (List ℕ))) : Type 0 where

@@ -99,6 +99,7 @@ impl Listing {
         requires ending { end_at space.counts (n - 1) < search.old.vars }
         ensures listing { (program : Ground) → space.counts ≡ counts_of program → HasLength program n search.old [] → IsListing program n search.old.kept result search.new [] }
         ensures conflicts { result.conflicts ≡ conflicts }
+        ensures stage { result.stage ≡ stages.Seeking }
         ensures ground { search.new.ground ≡ search.old.ground }
         ensures kept { search.new.kept ≡ search.old.kept }
         ensures vars { search.new.vars ≡ search.old.vars }
