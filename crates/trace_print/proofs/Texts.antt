@@ -45,14 +45,10 @@ numbered-there program seen atom found same there =
     ∙ get_or-map (ground_text seen.symbols) seen.atoms atom found [] (slice_get_within seen.atoms atom found there)
     ∙ ap (ground_text seen.symbols) (get_or_from_slice_get seen.atoms atom found found there)
 
-pub hidden : (program seen : Ground) (atom : ℕ) → seen ≡ program → is_shown seen.show atom ≡ false → atom_text program atom ≡ []
+pub hidden : (program : Ground) (atom : ℕ) → is_shown program.show atom ≡ false → atom_text program atom ≡ []
 unfolding atom_text
-hidden program seen atom same is =
-    ap (λ (p : Ground). atom_text p atom) (sym same) ∙ ap (λ (b : Bool). if b then 32 ∷ numbered_text seen atom else []) is
+hidden program atom is = ap (λ (b : Bool). if b then 32 ∷ numbered_text program atom else []) is
 
-pub shown : (program seen : Ground) (atom : ℕ) → seen ≡ program → is_shown seen.show atom ≡ true → atom_text program atom ≡ codes " " ++ numbered_text program atom
+pub shown : (program : Ground) (atom : ℕ) → is_shown program.show atom ≡ true → atom_text program atom ≡ codes " " ++ numbered_text program atom
 unfolding atom_text
-shown program seen atom same is =
-    ap (λ (p : Ground). atom_text p atom) (sym same)
-    ∙ ap (λ (b : Bool). if b then 32 ∷ numbered_text seen atom else []) is
-    ∙ ap (λ (p : Ground). codes " " ++ numbered_text p atom) same
+shown program atom is = ap (λ (b : Bool). if b then 32 ∷ numbered_text program atom else []) is

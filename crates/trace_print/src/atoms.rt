@@ -3,6 +3,8 @@ ghost use Rattle.std.specs.Prelude.{◌≡◌, ℕ, ◌<◌, ◌++◌, [], ◌�
 ghost use Rattle.std.specs.List.{flat_map, list_all};
 ghost use Rattle.std.specs.Fmt.{signed_decimal};
 ghost use Rattle.tel_rule.specs.Atoms.{name_bytes, value_in_range, atom_in_range};
+ghost use Rattle.tel_rule.specs.Rising.{numbers_rise};
+ghost use Rattle.tel_semantics.specs.Traces.{is_member};
 ghost use Rattle.tel_semantics.specs.Print.{escaped, term_text, value_text, next_text, args_text, sign_text, ground_text, numbered_text, is_shown};
 ghost use Rattle.trace_print.specs.Waiting.{Puts};
 
@@ -13,13 +15,21 @@ use tel_base::{Failed, Sink};
 use tel_rule::{GroundAtom, Show, Template};
 use tel_term::{Symbols, Term, Value};
 
-/// Whether an atom is shown.
-pub fn is_shown(show: &Show, atom: u32) -> bool
-    ensures { result ≡ is_shown show.now atom }
+/// Whether a number is among these, which rise.
+fn is_among(numbers: &[u32], number: u32) -> bool
+    requires { IsTrue (numbers_rise numbers.now) }
+    ensures { result ≡ is_member numbers.now number }
 {
-    match show {
+    numbers.binary_search(&number).is_ok()
+}
+
+/// Whether an atom is shown.
+pub fn is_shown(template: &Template, atom: u32) -> bool
+    ensures { result ≡ is_shown template.now.show atom }
+{
+    match &template.show {
         Show::All => true,
-        Show::Only(shown) => shown.as_slice().contains(&atom),
+        Show::Only(shown) => is_among(shown.as_slice(), atom),
     }
 }
 

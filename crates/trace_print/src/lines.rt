@@ -45,7 +45,7 @@ fn put_atom<O: Sink, const ROOM: usize>(
     requires { atom < length template.now.atoms }
     ensures { Puts result (atom_text template.now atom) (O.bytes out.old) (O.bytes out.new) waiting.old.items waiting.new.items (O.faults out.old) (O.faults out.new) }
 {
-    if !is_shown(&template.show, atom) {
+    if !is_shown(template, atom) {
         return Ok(());
     }
     match put(out, waiting, b" ") {
