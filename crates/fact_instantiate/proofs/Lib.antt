@@ -5,3 +5,4 @@ pub mod RowSteps
 pub mod SameInstances
 pub mod Stood
 pub mod Templated
+mod NamedKeys

@@ -1,3 +1,4 @@
 pub mod Building
 pub mod Shown
 pub mod Instantiated
+pub mod Named

@@ -33,7 +33,12 @@ fn assemble(sorted: SortedAtoms, pairs: Items<(u32, u32)>, built: Built, show: S
 }
 
 /// The template of a program with these live instances.
-fn template_of(alloc: Global, program: Program, gathered: Gathered) -> Result<Template, Memory>
+fn template_of(
+    alloc: Global,
+    key: HashKey,
+    program: Program,
+    gathered: Gathered,
+) -> Result<Template, Memory>
     requires ready { IsReady program }
     requires gathered { IsGathered program gathered.live gathered.atoms }
     ensures template { IfOk result (λ template. IsTemplateOf program gathered.live template) }
@@ -49,6 +54,7 @@ fn template_of(alloc: Global, program: Program, gathered: Gathered) -> Result<Te
     )?;
     let show = show_of(
         alloc,
+        key,
         program.statements.as_slice(),
         &sorted.symbols,
         sorted.atoms.as_slice(),
@@ -78,7 +84,7 @@ pub fn instantiate(
         Ok(gathered) => gathered,
         Err(fault) => return Err(fault),
     };
-    match template_of(alloc, program, gathered) {
+    match template_of(alloc, key, program, gathered) {
         Ok(template) => Ok(template),
         Err(_) => Err(GroundFault::Memory),
     }
