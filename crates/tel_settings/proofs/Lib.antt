@@ -1,3 +1,8 @@
+pub mod Agreed
 pub mod Lengths
 pub mod Limits
-pub mod Lines
+pub mod Looks
+pub mod Rows
+pub mod Rules
+pub mod Uses
+pub mod Walks

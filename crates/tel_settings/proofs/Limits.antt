@@ -10,10 +10,9 @@ use Rattle.tel_settings.specs.declared.fields.Stop.TheVariants.{Sat}
 use Rattle.tel_settings.specs.declared.fields.Input.{Input}
 use Rattle.tel_settings.specs.declared.fields.Input.TheVariants.{Files}
 use Rattle.tel_settings.specs.declared.fields.Settings.{Settings}
-use Rattle.tel_settings.specs.declared.pieces.Name.{Name}
-use Rattle.tel_settings.specs.declared.pieces.Name.TheVariants as names
-use Rattle.tel_settings.specs.declared.pieces.Piece.{Piece}
-use Rattle.tel_settings.specs.declared.pieces.Piece.TheVariants.{Imin, Imax, Istop, Models, Conflicts, Generate}
+use Rattle.tel_settings.specs.Names.{Name}
+use Rattle.tel_settings.specs.Names as names
+use Rattle.tel_settings.specs.Pieces.{Piece, Imin, Imax, Istop, Models, Conflicts, Generate}
 use Rattle.tel_base.specs.Digits.{decimal}
 use Rattle.tel_settings.specs.Words.{is_number, number_from, stop_of, conflicts_of, most_count, piece_of, name_of, after_name, assigned_by, assigned, all_names, spelled, is_plain}
 use Rattle.tel_settings.specs.Parts.{Part, File, Says, Wrong, said, parts, input_of}

@@ -7,7 +7,7 @@ use Rattle.tel_settings.specs.declared.fields.Stop.TheVariants.{Sat}
 use Rattle.tel_settings.specs.declared.fields.Input.{Input}
 use Rattle.tel_settings.specs.declared.fields.Input.TheVariants.{Files, Number}
 use Rattle.tel_settings.specs.declared.fields.Settings.{Settings}
-use Rattle.tel_settings.specs.declared.pieces.Piece.TheVariants.{Imin, Imax, Istop, Models, Conflicts, Generate}
+use Rattle.tel_settings.specs.Pieces.{Imin, Imax, Istop, Models, Conflicts, Generate}
 use Rattle.tel_settings.specs.Parts.{Part, File, Says, Wrong, parts, input_of}
 
 abbrev pub is_right : Part → Bool

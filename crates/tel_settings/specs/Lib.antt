@@ -1,7 +1,8 @@
-pub mod Collecting
 pub mod Command
+pub mod Given
 pub mod Laws
+pub mod Names
 pub mod Parts
+pub mod Pieces
 pub mod Run
-pub mod Senses
 pub mod Words

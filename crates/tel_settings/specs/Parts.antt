@@ -3,8 +3,8 @@ use Rattle.std.specs.Prelude.{ℕ, ◌&&◌, List, [], ◌∷◌, Option, Some, 
 use Rattle.std.specs.Option.{option_map_or}
 use Rattle.tel_settings.specs.declared.fields.Input.{Input}
 use Rattle.tel_settings.specs.declared.fields.Input.TheVariants.{Files, Number}
-use Rattle.tel_settings.specs.declared.pieces.Name.{Name}
-use Rattle.tel_settings.specs.declared.pieces.Piece.{Piece}
+use Rattle.tel_settings.specs.Names.{Name}
+use Rattle.tel_settings.specs.Pieces.{Piece}
 use Rattle.tel_settings.specs.Words.{piece_of, name_of, assigned, is_plain}
 
 -- a part of a line: a file, what an option says, or words that are wrong

@@ -6,10 +6,9 @@ use Rattle.std.specs.Option.{option_map, option_map_or}
 use Rattle.tel_base.specs.Digits.{decimal}
 use Rattle.tel_settings.specs.declared.fields.Stop.{Stop}
 use Rattle.tel_settings.specs.declared.fields.Stop.TheVariants.{Sat, Unsat, Unknown}
-use Rattle.tel_settings.specs.declared.pieces.Name.{Name}
-use Rattle.tel_settings.specs.declared.pieces.Name.TheVariants as names
-use Rattle.tel_settings.specs.declared.pieces.Piece.{Piece}
-use Rattle.tel_settings.specs.declared.pieces.Piece.TheVariants.{Imin, Imax, Istop, Models, Conflicts, Generate}
+use Rattle.tel_settings.specs.Names.{Name}
+use Rattle.tel_settings.specs.Names as names
+use Rattle.tel_settings.specs.Pieces.{Piece, Imin, Imax, Istop, Models, Conflicts, Generate}
 
 -- a number has 1 to 20 digits
 abbrev pub is_number : List ℕ → Bool

@@ -1,12 +1,10 @@
 //! The settings of a run, as the words of the command line give them, and which lengths a run prints.
 #![tactic(auto)]
 
-mod collecting;
 mod command;
 mod fields;
-mod pieces;
 mod running;
-mod senses;
+mod values;
 
 pub use command::settings;
 pub use fields::{Input, Settings, SettingsFault, Stop, Word};

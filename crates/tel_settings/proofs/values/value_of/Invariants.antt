@@ -2,7 +2,7 @@ use Rattle.std.proofs.Common.{◌≡◌, take, true}
 use Rattle.std.specs.Char.{is_ascii_digit}
 use Rattle.std.specs.List.{list_all}
 use Rattle.tel_base.specs.Digits.{decimal}
-use Rattle.tel_settings.proofs.pieces.value_of.Given as goal
+use Rattle.tel_settings.proofs.values.value_of.Given as goal
 
 abbrev pub invariant-loop-digit : goal.invariant-loop-digit
 invariant-loop-digit l = record {

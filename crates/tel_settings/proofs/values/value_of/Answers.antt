@@ -1,6 +1,6 @@
 use Rattle.std.proofs.Common.{◌<◌, length, arith}
 use Rattle.tel_base.proofs.Decimals.{decimal_front}
-use Rattle.tel_settings.proofs.pieces.value_of.Goals as goal
+use Rattle.tel_settings.proofs.values.value_of.Goals as goal
 
 pub returns-in_default-clause-none : goal.returns-in_default-clause-none
 returns-in_default-clause-none c = λ _.
