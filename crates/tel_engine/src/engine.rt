@@ -132,7 +132,13 @@ impl<F: Founded + Drop> Engine<F> {
         if self.wide {
             return Err(EngineFault::Memory);
         }
-        let mut listing = Listing::begin(&mut self.search, self.space, self.length, conflicts);
+        let mut listing = Listing::begin(
+            self.alloc,
+            &mut self.search,
+            self.space,
+            self.length,
+            conflicts,
+        );
         match print_listing(
             self.alloc,
             &mut listing,

@@ -11,7 +11,7 @@ ghost use Rattle.tel_engine.specs.Lists.{lines_of, text_of, Prints, Keeps};
 use crate::ends::{EngineFault, LengthEnd};
 use cdcl_search::Search;
 use std::alloc::Global;
-use tel_base::Sink;
+use tel_base::{NullSink, Sink};
 use tel_rule::Template;
 use tel_semantics::How;
 use trace_list::{Listing, Next};
@@ -38,7 +38,7 @@ fn print_traces<F: Founded + Drop, O: Sink>(
 {
     let mut traces: u64 = 0;
     'listing: loop {
-        let next = match listing.next_trace(search, alloc) {
+        let next = match listing.next_trace(search, alloc, &mut NullSink) {
             Ok(next) => next,
             Err(_) => return Err(EngineFault::Memory),
         };
